@@ -1,0 +1,4 @@
+pub mod RootLaws
+pub mod SearchLaws
+pub mod SignedLaws
+pub mod Table

@@ -1,0 +1,166 @@
+-- Whole numbers as differences of two natural ones: each equation and each order of sums in ℤ becomes one of sums in ℕ, for omega.
+-- `subℕ a b` is a − b.
+use mathlib.Core.Path.{_≡_, refl, sym, ap, subst, _∙_}
+use mathlib.Core.Bool.{Bool, true, false, not, cond}
+use Prim.Native.Nat.{ℕ, zero, suc, _+_, _-_, _*_, _≤_, _<_}
+use native.Mathlib.Omega.{arith}
+use lib.IntN.{ℤ, pos, negsuc, _+ℤ_, _-ℤ_, negℤ, natAbs, subℕ, negℤ-negℤ}
+use lib.Dec.{T, ltb, ltb→lt, nltb→le, leb→le, le→leb, nleb→lt}
+use native.Mathlib.Nat.{le-of-lt}
+use mathlib.Core.Logic.{_⊎_, inl, inr, ⊎-elim}
+use lib.Signed.{mag, _≤ℤ_, leZ}
+use Rattle.numbers.specs.Signed.{positive}
+use borrow.Author.Tests.{lt-ltb, le-ltb}
+
+-- a − b by cases: it is not negative, or it is
+pub at-least : (a b : ℕ) → b ≤ a → subℕ a b ≡ pos (a - b)
+at-least a b h = rw (le-ltb a b h)
+
+pub below : (a b : ℕ) → a < b → subℕ a b ≡ negsuc (b - suc a)
+below a b h = rw (lt-ltb a b h)
+
+by-order : (a b : ℕ) {P : Type 0} → (a < b → P) → (b ≤ a → P) → P
+by-order a b {P} f g = go (ltb a b) (ltb→lt a b) (nltb→le a b)
+  where
+    go : (c : Bool) → (T c → a < b) → (T (not c) → b ≤ a) → P
+    go true p q = f (p tt)
+    go false p q = g (q tt)
+
+-- the same difference
+pub sub-eq : (a b c d : ℕ) → a + d ≡ c + b → subℕ a b ≡ subℕ c d
+sub-eq a b c d e =
+    by-order a b
+    (λ l. below a b l ∙ ap negsuc (omega arith) ∙ sym (below c d (omega arith)))
+    (λ l. at-least a b l ∙ ap pos (omega arith) ∙ sym (at-least c d (omega arith)))
+
+-- the two parts: max(z, 0) and max(−z, 0)
+pub parts : (z : ℤ) → z ≡ subℕ (positive z) (positive (negℤ z))
+parts (pos zero) = sym (at-least 0 0 (omega arith))
+parts (pos (suc n)) = sym (at-least (suc n) 0 (omega arith) ∙ ap pos (omega arith))
+parts (negsuc n) = sym (below 0 (suc n) (omega arith) ∙ ap negsuc (omega arith))
+
+pub right-sub : (a b : ℕ) → positive (subℕ a b) ≡ a - b
+right-sub a b =
+    by-order a b
+    (λ l. ap positive (below a b l) ∙ omega arith)
+    (λ l. ap positive (at-least a b l))
+
+pub sub-neg : (a b : ℕ) → negℤ (subℕ a b) ≡ subℕ b a
+sub-neg a b =
+    by-order a b
+    (λ l. ap negℤ (below a b l) ∙ ap pos (omega arith) ∙ sym (at-least b a (omega arith)))
+    (λ l. ap negℤ (at-least a b l) ∙ neg-pos a b l)
+  where
+    neg-pos : (a b : ℕ) → b ≤ a → negℤ (pos (a - b)) ≡ subℕ b a
+    neg-pos a b l =
+        by-order b a
+        (λ k. let e : a - b ≡ suc (a - suc b) = omega arith in ap (λ (n : ℕ). negℤ (pos n)) e ∙ sym (below b a k))
+        (λ k. let e : a - b ≡ 0 = omega arith in ap (λ (n : ℕ). negℤ (pos n)) e ∙ sym (at-least b a k ∙ ap pos (omega arith)))
+
+pub left-sub : (a b : ℕ) → positive (negℤ (subℕ a b)) ≡ b - a
+left-sub a b = ap positive (sub-neg a b) ∙ right-sub b a
+
+-- one difference: the crossed sums agree
+pub sub-inj : (a b c d : ℕ) → subℕ a b ≡ subℕ c d → a + d ≡ c + b
+sub-inj a b c d e =
+    let r = sym (right-sub a b) ∙ ap positive e ∙ right-sub c d in
+    let l = sym (left-sub a b) ∙ ap (λ (z : ℤ). positive (negℤ z)) e ∙ left-sub c d in
+    omega arith
+
+-- sums
+no-left : (n : ℕ) → positive (negℤ (pos n)) ≡ 0
+no-left zero = refl
+no-left (suc n) = refl
+
+pub pos-sub : (n : ℕ) → pos n ≡ subℕ n 0
+pos-sub n = sym (at-least n 0 (omega arith) ∙ ap pos (omega arith))
+
+plus : (y z : ℤ) → y +ℤ z ≡ subℕ (positive y + positive z) (positive (negℤ y) + positive (negℤ z))
+plus (pos m) (pos n) = pos-sub (m + n) ∙ sub-eq (m + n) 0 (m + n) (positive (negℤ (pos m)) + positive (negℤ (pos n))) (omega (arith, no-left m, no-left n))
+plus (pos m) (negsuc n) = sub-eq m (suc n) (m + 0) (positive (negℤ (pos m)) + suc n) (omega (arith, no-left m))
+plus (negsuc m) (pos n) = sub-eq n (suc m) (0 + n) (suc m + positive (negℤ (pos n))) (omega (arith, no-left n))
+plus (negsuc m) (negsuc n) = parts (negsuc (suc (m + n))) ∙ sub-eq 0 (suc (suc (m + n))) (0 + 0) (suc m + suc n) (omega arith)
+
+pub sub-add : (a b c d : ℕ) → subℕ a b +ℤ subℕ c d ≡ subℕ (a + c) (b + d)
+sub-add a b c d =
+    plus (subℕ a b) (subℕ c d)
+    ∙ sub-eq (positive (subℕ a b) + positive (subℕ c d)) (positive (negℤ (subℕ a b)) + positive (negℤ (subℕ c d))) (a + c) (b + d)
+    (omega (arith, right-sub a b, left-sub a b, right-sub c d, left-sub c d))
+
+pub sub-minus : (a b c d : ℕ) → subℕ a b -ℤ subℕ c d ≡ subℕ (a + d) (b + c)
+sub-minus a b c d = ap (λ (z : ℤ). subℕ a b +ℤ z) (sub-neg c d) ∙ sub-add a b d c
+
+-- a difference of two natural numbers in ℤ
+pub pos-minus : (p n : ℕ) → pos p -ℤ pos n ≡ subℕ p n
+pos-minus p zero = sym (at-least p 0 (omega arith) ∙ ap pos (omega arith))
+pos-minus p (suc n) = refl
+
+-- sizes
+pub abs-parts : (z : ℤ) → natAbs z ≡ positive z + positive (negℤ z)
+abs-parts (pos zero) = omega arith
+abs-parts (pos (suc k)) = omega arith
+abs-parts (negsuc k) = omega arith
+
+pub abs-sub : (a b : ℕ) → natAbs (subℕ a b) ≡ (a - b) + (b - a)
+abs-sub a b = omega (arith, abs-parts (subℕ a b), right-sub a b, left-sub a b)
+
+pub mag-abs : (z : ℤ) → mag z ≤ natAbs z
+mag-abs (pos n) = omega arith
+mag-abs (negsuc n) = omega arith
+
+-- ---- each ℤ fact as one of the parts R z = max(z,0) and L z = max(−z,0), which omega reads
+-- (the laws of a sum, a difference and a sign cross the parts over; `from-cross` goes back)
+abbrev pub R : ℤ → ℕ
+R z = positive z
+
+abbrev pub L : ℤ → ℕ
+L z = positive (negℤ z)
+
+pub add-cross : (y z : ℤ) → R (y +ℤ z) + (L y + L z) ≡ R y + R z + L (y +ℤ z)
+add-cross y z = sub-inj (R (y +ℤ z)) (L (y +ℤ z)) (R y + R z) (L y + L z) (sym (parts (y +ℤ z)) ∙ plus y z)
+
+pub neg-cross : (z : ℤ) → (R (negℤ z) ≡ L z) × (L (negℤ z) ≡ R z)
+neg-cross z = (refl, ap positive (negℤ-negℤ z))
+
+pub minus-cross : (y z : ℤ) → R (y -ℤ z) + (L y + R z) ≡ R y + L z + L (y -ℤ z)
+minus-cross y z = omega (arith, add-cross y (negℤ z), neg-cross z .1)
+
+pub from-cross : (y z : ℤ) → R y + L z ≡ R z + L y → y ≡ z
+from-cross y z e = parts y ∙ sub-eq (R y) (L y) (R z) (L z) e ∙ sym (parts z)
+
+pub pos-cross : (n : ℕ) → L (pos n) ≡ 0
+pos-cross n = no-left n
+
+-- one of the two is 0
+pub one-part : (z : ℤ) → (R z ≡ 0) ⊎ (L z ≡ 0)
+one-part (pos n) = inr (no-left n)
+one-part (negsuc n) = inl refl
+
+pub le-cross : (y z : ℤ) → y ≤ℤ z → R y + L z ≤ R z + L y
+le-cross (pos m) (pos n) h = let l = leb→le m n (h .le) in omega (arith, no-left m, no-left n)
+le-cross (pos m) (negsuc n) h = absurd (h .le)
+le-cross (negsuc m) (pos n) h = omega (arith, no-left n)
+le-cross (negsuc m) (negsuc n) h = let l = leb→le n m (h .le) in omega arith
+
+pub cross-le : (y z : ℤ) → R y + L z ≤ R z + L y → y ≤ℤ z
+cross-le (pos m) (pos n) h = record { le = le→leb m n (omega (arith, no-left m, no-left n)) }
+cross-le (pos m) (negsuc n) h = absurd (omega (arith, no-left m))
+cross-le (negsuc m) (pos n) h = record { le = tt }
+cross-le (negsuc m) (negsuc n) h = record { le = le→leb n m (omega arith) }
+
+pub abs-add : (y z : ℤ) → natAbs (y +ℤ z) ≤ natAbs y + natAbs z
+abs-add y z =
+    ⊎-elim
+    (λ e. omega (arith, e, add-cross y z, abs-parts y, abs-parts z, abs-parts (y +ℤ z)))
+    (λ e. omega (arith, e, add-cross y z, abs-parts y, abs-parts z, abs-parts (y +ℤ z)))
+    (one-part (y +ℤ z))
+
+pub abs-neg : (z : ℤ) → natAbs (negℤ z) ≡ natAbs z
+abs-neg z = omega (arith, abs-parts z, abs-parts (negℤ z), neg-cross z .1)
+
+-- a test that failed (`leZ-yes` of lib.Signed is the one that held)
+pub leZ-no : (y z : ℤ) → T (not (leZ y z)) → z ≤ℤ y
+leZ-no (pos m) (pos n) t = record { le = le→leb n m (le-of-lt (nleb→lt m n t)) }
+leZ-no (pos m) (negsuc n) t = record { le = tt }
+leZ-no (negsuc m) (pos n) t = absurd t
+leZ-no (negsuc m) (negsuc n) t = record { le = le→leb m n (le-of-lt (nleb→lt n m t)) }

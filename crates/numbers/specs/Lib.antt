@@ -1,0 +1,3 @@
+pub mod Search
+pub mod Root
+pub mod Signed

@@ -1,0 +1,9 @@
+-- One search for every 'greatest' and 'least' whole number of the model: the first, counted upwards, that cannot be raised.
+use mathlib.Core.Bool.{Bool, true, false}
+use Prim.Native.Nat.{ℕ, zero, suc}
+
+-- from a upwards, the first number that cannot be raised; at most `turns` numbers are tried
+-- (a choice inside the clause, so that the search computes no further than it goes)
+unfoldable pub climb : (ℕ → Bool) → (turns a : ℕ) → ℕ
+climb canRaise zero a = a
+climb canRaise (suc turns) a = elim (canRaise a) [ true ↦ climb canRaise turns (suc a) | false ↦ a ]

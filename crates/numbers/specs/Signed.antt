@@ -1,0 +1,14 @@
+-- Signed whole numbers by their two parts. A signed z is max(z,0) − max(−z,0); `subℕ p n` of the library is p − n in ℤ.
+use mathlib.Core.Bool.{cond}
+use Prim.Native.Nat.{ℕ}
+use lib.IntN.{ℤ, pos, negsuc}
+use lib.Signed.{leZ}
+
+-- max(z, 0); the other part, max(−z, 0), is `positive (negℤ z)`
+abbrev pub positive : ℤ → ℕ
+positive (pos n) = n
+positive (negsuc n) = 0
+
+-- the larger of two
+unfoldable pub maxℤ : ℤ → ℤ → ℤ
+maxℤ y z = cond (leZ y z) z y

@@ -1,0 +1,40 @@
+// Signed numbers and their two parts: max(z,0), 'right', and max(−z,0), 'left'.
+ghost use mathlib.Core.Path.{_≡_};
+ghost use Prim.Native.Nat.{_-_, _<_};
+ghost use lib.IntN.{negℤ, subℕ};
+ghost use Rattle.numbers.specs.Signed.{positive};
+
+// A signed number right − left. Where each part is what its name says of a number, one of the two is 0.
+pub struct Parts {
+    pub right: u64,
+    pub left: u64,
+}
+
+// max(z, 0)
+pub fn right_part(z: i64) -> u64
+    ensures { λ r. ⌜ r ≡ positive z ⌝ }
+{
+    if z < 0 { 0 } else { z as u64 }
+}
+
+// max(−z, 0), over the whole range of i64
+pub fn left_part(z: i64) -> u64
+    ensures { λ r. ⌜ r ≡ positive (negℤ z) ⌝ }
+{
+    if z < 0 { (-1 - z) as u64 + 1 } else { 0 }
+}
+
+// right − left as a signed number
+pub fn joined(right: u64, left: u64) -> i64
+    requires { ⌜ (right < 9_223_372_036_854_775_808) × (left < 9_223_372_036_854_775_808) ⌝ }
+    ensures { λ r. ⌜ r ≡ subℕ right left ⌝ }
+{
+    right as i64 - left as i64
+}
+
+// max(x − n, 0)
+pub fn excess(x: u64, n: u64) -> u64
+    ensures { λ r. ⌜ r ≡ x - n ⌝ }
+{
+    if n < x { x - n } else { 0 }
+}
