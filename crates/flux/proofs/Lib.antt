@@ -1,0 +1,4 @@
+pub mod WaveLaws
+pub mod VelocityLaws
+pub mod CrossingLaws
+pub mod InterfaceLaws

@@ -1,0 +1,27 @@
+-- What the functions of this crate require: the ranges of a record that passed its checks.
+use mathlib.Core.Path.{_≡_}
+use Prim.Native.Nat.{ℕ, _+_, _*_, _≤_, _<_}
+use Rattle.flux.specs.Limits.{depthMost, velocityMost, timeStepMost, cellLengthLeast, cellLengthMost}
+use Rattle.flux.specs.Wave.{waveSpeed}
+
+-- a time step and a cell length
+pub record Mesh (t X : ℕ) : Type 0 where
+  pub time : t ≤ timeStepMost
+  pub least : cellLengthLeast ≤ X
+  pub most : X ≤ cellLengthMost
+
+-- a depth h with its wave speed a, and a velocity right − left
+pub record Flow (h a right left : ℕ) : Type 0 where
+  pub depth : h ≤ depthMost
+  pub wave : a ≡ waveSpeed h
+  pub right-most : right ≤ velocityMost
+  pub left-most : left ≤ velocityMost
+
+-- what W and Q of a wet depth are computed from: the wave speed a, and A and B
+pub record Spectrum (h a A B : ℕ) : Type 0 where
+  pub depth : h ≤ depthMost
+  pub wet : 0 < a
+  pub wave : a ≤ 8_000
+  pub upper : A ≤ 16_000
+  pub lower : B ≤ A
+  pub width : A ≤ B + 2 * a

@@ -1,0 +1,72 @@
+// Crossing amounts: W, Q and S of one side of an interface.
+ghost use mathlib.Core.Path.{_≡_};
+ghost use Prim.Native.Nat.{_*_, _≤_};
+ghost use lib.IntN.{subℕ};
+ghost use Rattle.flux.specs.Crossing.{upper, lower, waterOf, momentumOf, waterFlux, momentumFlux, stillThrust};
+ghost use Rattle.flux.specs.Ranges.{Mesh, Flow, Spectrum};
+use numbers::signed::excess;
+
+// A and B: of the speeds of a cell, those that go rightwards are lower..upper
+struct Rightgoing {
+    upper: u64,
+    lower: u64,
+}
+
+fn rightgoing_of(a: u64, right: u64, left: u64) -> Rightgoing
+    requires { ⌜ (a ≤ 8_000) × ((right ≤ 8_000) × (left ≤ 8_000)) ⌝ }
+    ensures { λ r. ⌜ (r .upper ≡ upper a (subℕ right left)) × (r .lower ≡ lower a (subℕ right left)) ⌝ }
+{
+    Rightgoing {
+        upper: excess(right + a, left),
+        lower: excess(right, left + a),
+    }
+}
+
+// W of a wet depth
+fn water_of(t: u64, x: u64, h: u64, a: u64, upper: u64, lower: u64) -> u64
+    requires { ⌜ Mesh t x × Spectrum h a upper lower ⌝ }
+    ensures { λ r. ⌜ r ≡ waterOf t x h a upper lower ⌝ }
+{
+    h * t * (upper * upper - lower * lower) / (4_000 * a * x)
+}
+
+// Q of a wet depth
+fn momentum_of(t: u64, x: u64, h: u64, a: u64, upper: u64, lower: u64) -> u64
+    requires { ⌜ Mesh t x × Spectrum h a upper lower ⌝ }
+    ensures { λ r. ⌜ r ≡ momentumOf t x h a upper lower ⌝ }
+{
+    let k = (upper * upper * upper - lower * lower * lower) / (6 * a);
+    h * t * k / (1_000 * x)
+}
+
+// W and Q of one side
+pub struct Crossing {
+    pub water: u64,
+    pub momentum: u64,
+}
+
+// W(h,u) and Q(h,u) of a depth h, its wave speed a and the velocity u = right − left
+pub fn crossing_of(t: u64, x: u64, h: u64, a: u64, right: u64, left: u64) -> Crossing
+    requires { ⌜ Mesh t x × Flow h a right left ⌝ }
+    ensures { λ r. ⌜ (r .water ≡ waterFlux t x h (subℕ right left)) × (r .momentum ≡ momentumFlux t x h (subℕ right left)) ⌝ }
+{
+    if h == 0 {
+        return Crossing {
+            water: 0,
+            momentum: 0,
+        };
+    }
+    let s = rightgoing_of(a, right, left);
+    Crossing {
+        water: water_of(t, x, h, a, s.upper, s.lower),
+        momentum: momentum_of(t, x, h, a, s.upper, s.lower),
+    }
+}
+
+// S(h) of a depth h and its wave speed a. At rest A is a and B is 0, so K is a²/6.
+pub fn still_thrust(t: u64, x: u64, h: u64, a: u64) -> u64
+    requires { ⌜ Mesh t x × Flow h a 0 0 ⌝ }
+    ensures { λ r. ⌜ r ≡ stillThrust t x h ⌝ }
+{
+    2 * (h * t * (a * a / 6) / (1_000 * x))
+}
