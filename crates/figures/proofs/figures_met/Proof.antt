@@ -1,0 +1,25 @@
+-- `figures::figures_met` meets its contract: every figure is computed from the definitions. Assumes nothing.
+use mathlib.Core.Path.{refl}
+use Rattle.numbers.specs.Search.{climb}
+use Rattle.numbers.specs.Root.{squareRoot}
+use Rattle.flux.specs.Wave.{waveSpeed}
+use Rattle.flux.specs.Crossing.{upper, lower, waterOf, waterFlux, secondMoment, momentumOf, momentumFlux}
+use Rattle.figures.proofs.figures_met.Statement.{statement}
+use Rattle.figures.proofs.figures_met.Tie as tie
+
+returns : tie.Need-returns
+unfolding waveSpeed squareRoot climb waterFlux waterOf momentumFlux momentumOf secondMoment upper lower
+returns c =
+    record {
+      a-dry = refl;
+      a-1 = refl;
+      a-100-000 = refl;
+      a-1-000-000 = refl;
+      a-4-000-000 = refl;
+      W-1-000-000 = refl;
+      Q-1-000-000 = refl;
+      W-100-000 = refl;
+    }
+
+pub figures-met-spec : {M : Type 1} → statement M
+figures-met-spec = tie.close (tie.spec returns)
