@@ -1,0 +1,62 @@
+-- `harness::harness_side` meets its contract. Assumes nothing.
+use mathlib.Core.Path.{_≡_, sym, ap, ap₂, _∙_}
+use lib.IntN.{ℤ, subℕ}
+use native.Mathlib.Omega.{arith}
+use mir.Facts.{toZ-ofZ}
+use Rattle.numbers.proofs.SignedLaws.{parts, abs-parts}
+use Rattle.flux.specs.Crossing.{waterFlux, momentumFlux}
+use borrow.Author.Needs.{needs}
+use Rattle.harness.proofs.harness_side.Statement.{statement}
+use Rattle.harness.proofs.harness_side.Tie as tie
+
+wave-speed-requires : tie.Need-wave-speed-requires
+wave-speed-requires c κs = search needs
+
+right-part-requires : tie.Need-right-part-requires
+right-part-requires c κs = search needs
+
+left-part-requires : tie.Need-left-part-requires
+left-part-requires c κs = search needs
+
+crossing-of-requires : tie.Need-crossing-of-requires
+crossing-of-requires c κs =
+    let s = c .before .before .before in
+    let f = s .fits .u in
+    let k = abs-parts (s .args .u) in
+    let r = rw (toZ-ofZ f) at (c .before .right-part .ensures) in
+    let l = rw (toZ-ofZ f) at (c .left-part .ensures) in (
+      s .pre .0,
+      record {
+        depth = s .pre .1 .0;
+        wave = c .before .before .wave-speed .ensures;
+        right-most = omega arith;
+        left-most = omega arith;
+      },
+    )
+
+still-thrust-requires : tie.Need-still-thrust-requires
+still-thrust-requires c κs = search needs
+
+returns : tie.Need-returns
+returns c =
+    let s = c .before .before .before .before .before in
+    let f = s .fits .u in
+    let u = s .args .u in
+    let r = rw (toZ-ofZ f) at (c .before .before .before .right-part .ensures) in
+    let l = rw (toZ-ofZ f) at (c .before .before .left-part .ensures) in
+    let e = ap₂ subℕ r l ∙ sym (parts u) in
+    let x = c .before .crossing-of .ensures in (
+      x .0 ∙ ap (λ (v : ℤ). waterFlux (s .args .t) (s .args .x) (s .args .h) v) e,
+      (x .1 ∙ ap (λ (v : ℤ). momentumFlux (s .args .t) (s .args .x) (s .args .h) v) e, c .still-thrust .ensures),
+    )
+
+pub harness-side-spec : {M : Type 1} → statement M
+harness-side-spec =
+    tie.close
+    (tie.spec
+    wave-speed-requires
+    right-part-requires
+    left-part-requires
+    crossing-of-requires
+    still-thrust-requires
+    returns)
