@@ -1,4 +1,4 @@
+pub mod IndexLaws
 pub mod RootLaws
 pub mod SearchLaws
 pub mod SignedLaws
-pub mod Table

@@ -3,89 +3,89 @@ ghost use mathlib.Core.Path.{_≡_};
 ghost use Prim.Native.Nat.{_+_, _*_, _≤_, _<_};
 ghost use Rattle.numbers.specs.Root.{squareRoot};
 
-// floor(8,192·√k) for k = 0..64
-const ROOTS: [u32; 65] = [
+// floor(4,096·√k) for k = 0..64
+const ROOTS: [u16; 65] = [
     0,
+    4096,
+    5792,
+    7094,
     8192,
+    9158,
+    10033,
+    10836,
     11585,
+    12288,
+    12952,
+    13584,
     14188,
+    14768,
+    15325,
+    15863,
     16384,
+    16888,
+    17377,
+    17854,
     18317,
+    18770,
+    19211,
+    19643,
     20066,
+    20480,
+    20885,
+    21283,
     21673,
+    22057,
+    22434,
+    22805,
     23170,
+    23529,
+    23883,
+    24232,
     24576,
+    24914,
+    25249,
+    25579,
     25905,
+    26227,
+    26545,
+    26859,
     27169,
+    27476,
+    27780,
+    28080,
     28377,
+    28672,
+    28963,
+    29251,
     29536,
+    29819,
+    30099,
+    30376,
     30651,
+    30924,
+    31194,
+    31461,
     31727,
+    31990,
+    32251,
+    32510,
     32768,
-    33776,
-    34755,
-    35708,
-    36635,
-    37540,
-    38423,
-    39287,
-    40132,
-    40960,
-    41771,
-    42566,
-    43347,
-    44115,
-    44869,
-    45611,
-    46340,
-    47059,
-    47767,
-    48464,
-    49152,
-    49829,
-    50498,
-    51159,
-    51810,
-    52454,
-    53090,
-    53718,
-    54339,
-    54953,
-    55560,
-    56161,
-    56755,
-    57344,
-    57926,
-    58502,
-    59073,
-    59638,
-    60198,
-    60753,
-    61303,
-    61848,
-    62388,
-    62923,
-    63454,
-    63981,
-    64503,
-    65021,
-    65536,
 ];
 
-// The table's entry for k. It is at most 8,192·√k.
-fn entry(k: usize) -> u64
-    requires { ⌜ k ≤ 64 ⌝ }
-    ensures { λ r. ⌜ (r * r ≤ k * 67_108_864) × (r ≤ 65_536) ⌝ }
+fn wide(x: u16) -> u64
+    ensures { λ r. ⌜ r ≡ x ⌝ }
 {
-    ROOTS[k] as u64
+    x as u64
 }
 
-// The point at rest/span of the chord from entry k to the next, times span. A chord of the root lies below it.
+// 4,096·span times the point at rest/span of the chord of the root from k to k + 1. A chord of the root lies below it.
 fn chord(k: usize, rest: u64, span: u64) -> u64
     requires { ⌜ (k < 64) × ((rest ≤ span) × (span ≤ 1_048_576)) ⌝ }
-    ensures { λ r. ⌜ r * r ≤ span * (67_108_864 * (k * span + rest)) ⌝ }
+    ensures { λ r. ⌜ r * r ≤ span * (16_777_216 * (k * span + rest)) ⌝ }
 {
-    (span - rest) * entry(k) + rest * entry(k + 1)
+    // one copy: a constant array is built anew wherever it is named
+    let roots = ROOTS;
+    (span - rest) * wide(roots[k]) + rest * wide(roots[k + 1])
 }
 
 // A number at most the root of x, and for every wave speed of the model at most 4 below it.
@@ -95,15 +95,15 @@ fn below_root(x: u64) -> u64
     ensures { λ r. ⌜ r * r ≤ x ⌝ }
 {
     if x < 16_384 {
-        return chord((x / 256) as usize, x % 256, 256) / 131_072;
+        return chord((x / 256) as usize, x % 256, 256) / 65_536;
     }
     if x < 1_048_576 {
-        return chord((x / 16_384) as usize, x % 16_384, 16_384) / 1_048_576;
+        return chord((x / 16_384) as usize, x % 16_384, 16_384) / 524_288;
     }
     if x < 16_777_216 {
-        return chord((x / 262_144) as usize, x % 262_144, 262_144) / 4_194_304;
+        return chord((x / 262_144) as usize, x % 262_144, 262_144) / 2_097_152;
     }
-    chord((x / 1_048_576) as usize, x % 1_048_576, 1_048_576) / 8_388_608
+    chord((x / 1_048_576) as usize, x % 1_048_576, 1_048_576) / 4_194_304
 }
 
 // The greatest whole number whose square is at most x: raised from below to the first that cannot be raised.
