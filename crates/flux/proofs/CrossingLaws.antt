@@ -11,7 +11,7 @@ use Rattle.numbers.proofs.SignedLaws.{R, L, right-sub, left-sub, abs-parts, abs
 use Rattle.flux.specs.Limits.{depthMost, velocityMost, timeStepMost, cellLengthLeast, cellLengthMost}
 use Rattle.flux.specs.Wave.{waveSpeed}
 use Rattle.flux.specs.Crossing.{upper, lower, waterOf, waterFlux, secondMoment, momentumOf, momentumFlux, stillThrust}
-use Rattle.flux.specs.Ranges.{Mesh, Flow, Spectrum}
+use Rattle.flux.specs.Ranges.{Mesh, Flow, Spectrum, waveMost, momentMost}
 use Rattle.flux.proofs.WaveLaws.{wave-speed-mono, wave-speed-pos, wave-speed-most}
 
 -- ---- A and B by the parts of u
@@ -55,16 +55,6 @@ momentum-flux-dry t X u = none-crosses t _ _
 pub still-thrust-dry : (t X : ℕ) → stillThrust t X 0 ≡ 0
 unfolding stillThrust
 still-thrust-dry t X = ap (λ (k : ℕ). 2 * k) (momentum-flux-dry t X (pos 0))
-
--- ---- the amounts of a depth, by a, A and B
-
-pub water-flux-by : (t X h : ℕ) (u : ℤ) → waterOf t X h (waveSpeed h) (upper (waveSpeed h) u) (lower (waveSpeed h) u) ≡ waterFlux t X h u
-unfolding waterFlux
-water-flux-by t X h u = refl
-
-pub momentum-flux-by : (t X h : ℕ) (u : ℤ) → momentumOf t X h (waveSpeed h) (upper (waveSpeed h) u) (lower (waveSpeed h) u) ≡ momentumFlux t X h u
-unfolding momentumFlux
-momentum-flux-by t X h u = refl
 
 -- ---- no more water leaves a cell than it holds
 
@@ -146,8 +136,8 @@ cubes a A B l m =
       mul-le-mul-left (2 * a) (mul-le-mul l l),
     )
 
-module _ {h a A B : ℕ} (s : Spectrum h a A B) where
-  pub square : A * A ≤ 256_000_000
+module _ {a A B : ℕ} (s : Spectrum a A B) where
+  pub square : A * A ≤ momentMost
   square = mul-le-mul (s .upper) (s .upper)
 
   pub square-low : B * B ≤ A * A
@@ -159,33 +149,34 @@ module _ {h a A B : ℕ} (s : Spectrum h a A B) where
   pub cube-low : B * B * B ≤ A * A * A
   cube-low = mul-le-mul square-low (s .lower)
 
-  pub moment-small : secondMoment a A B ≤ A * A
+  pub moment-most : secondMoment a A B ≤ momentMost
   unfolding secondMoment
-  moment-small = div-le-of-le-mul (6 * a) (cubes a A B (s .lower) (s .width))
+  moment-most = le-trans (div-le-of-le-mul (6 * a) (cubes a A B (s .lower) (s .width))) square
 
-module _ {t X h a A B : ℕ} (g : Mesh t X) (s : Spectrum h a A B) where
+module _ {t X h : ℕ} (g : Mesh t X) (d : h ≤ depthMost) where
   pub volume : h * t ≤ 4_000_000_000
-  volume = mul-le-mul (s .depth) (g .time)
+  volume = mul-le-mul d (g .time)
 
-  pub water-dividend : h * t * (A * A - B * B) ≤ 1_024_000_000_000_000_000
-  water-dividend = mul-le-mul volume (le-trans (sub-le (A * A) (B * B)) (square s))
+  pub momentum-dividend : (k : ℕ) → k ≤ momentMost → h * t * k ≤ 1_024_000_000_000_000_000
+  momentum-dividend k l = mul-le-mul volume l
 
-  pub water-divisor : 4_000 * a * X ≤ 3_200_000_000_000
-  water-divisor = mul-le-mul (mul-le-mul-left 4_000 (s .wave)) (g .most)
-
-  pub water-divisor-pos : 0 < 4_000 * a * X
-  water-divisor-pos = let w = s .wet in let x = g .least in mul-pos (omega arith) (omega arith)
-
-  pub momentum-dividend : h * t * secondMoment a A B ≤ 1_024_000_000_000_000_000
-  momentum-dividend = mul-le-mul volume (le-trans (moment-small s) (square s))
-
-  pub momentum-of-most : momentumOf t X h a A B ≤ 10_240_000_000_000
+  pub momentum-of-most : (k : ℕ) → k ≤ momentMost → momentumOf t X h k ≤ 10_240_000_000_000
   unfolding momentumOf
-  momentum-of-most = let x = g .least in div-le-of-le-mul (1_000 * X) (omega (arith, momentum-dividend))
+  momentum-of-most k l = let x = g .least in div-le-of-le-mul (1_000 * X) (omega (arith, momentum-dividend k l))
+
+  module _ {a A B : ℕ} (s : Spectrum a A B) where
+    pub water-dividend : h * t * (A * A - B * B) ≤ 1_024_000_000_000_000_000
+    water-dividend = mul-le-mul volume (le-trans (sub-le (A * A) (B * B)) (square s))
+
+    pub water-divisor : 4_000 * a * X ≤ 3_200_000_000_000
+    water-divisor = mul-le-mul (mul-le-mul-left 4_000 (s .wave)) (g .most)
+
+    pub water-divisor-pos : 0 < 4_000 * a * X
+    water-divisor-pos = let w = s .wet in let x = g .least in mul-pos (omega arith) (omega arith)
 
 -- the spectrum of a wet cell
 pub spectrum-of : (h : ℕ) (u : ℤ) → h ≤ depthMost → natAbs u ≤ velocityMost → 0 < h
-    → Spectrum h (waveSpeed h) (upper (waveSpeed h) u) (lower (waveSpeed h) u)
+    → Spectrum (waveSpeed h) (upper (waveSpeed h) u) (lower (waveSpeed h) u)
 spectrum-of h u d v wet =
     let A = upper-parts (waveSpeed h) u in
     let B = lower-parts (waveSpeed h) u in
@@ -193,7 +184,6 @@ spectrum-of h u d v wet =
     let least = wave-speed-pos h wet in
     let e = abs-parts u in
     record {
-      depth = d;
       wet = least;
       wave = most;
       upper = omega arith;
@@ -202,7 +192,7 @@ spectrum-of h u d v wet =
     }
 
 -- the same of a velocity right − left
-pub spectrum : {h a right left : ℕ} → Flow h a right left → 0 < h → Spectrum h a (upper a (subℕ right left)) (lower a (subℕ right left))
+pub spectrum : {h a right left : ℕ} → Flow h a right left → 0 < h → Spectrum a (upper a (subℕ right left)) (lower a (subℕ right left))
 spectrum {h} {a} {right} {left} f wet =
     let r = f .right-most in
     let l = f .left-most in
@@ -210,7 +200,7 @@ spectrum {h} {a} {right} {left} f wet =
 
 -- and of A and B that were computed elsewhere
 pub spectrum-with : {h a right left A B : ℕ} → Flow h a right left → 0 < h → A ≡ upper a (subℕ right left) → B ≡ lower a (subℕ right left)
-    → Spectrum h a A B
+    → Spectrum a A B
 spectrum-with f wet eA eB = rw (eA, eB) (spectrum f wet)
 
 pub water-flux-of : {h a right left A B : ℕ} (t X : ℕ) → Flow h a right left → A ≡ upper a (subℕ right left) → B ≡ lower a (subℕ right left)
@@ -219,7 +209,7 @@ unfolding waterFlux
 water-flux-of t X f eA eB = rw (eA, eB, f .wave)
 
 pub momentum-flux-of : {h a right left A B : ℕ} (t X : ℕ) → Flow h a right left → A ≡ upper a (subℕ right left) → B ≡ lower a (subℕ right left)
-    → momentumOf t X h a A B ≡ momentumFlux t X h (subℕ right left)
+    → momentumOf t X h (secondMoment a A B) ≡ momentumFlux t X h (subℕ right left)
 unfolding momentumFlux
 momentum-flux-of t X f eA eB = rw (eA, eB, f .wave)
 
@@ -235,16 +225,14 @@ water-flux-most t X h u g d v =
     go w s l b = omega (arith, mul-le-mul (mul-le-mul d (g .time)) l, mul-le-mul-right (2_000 * w) (g .least))
 
 pub momentum-flux-most : (t X h : ℕ) (u : ℤ) → Mesh t X → h ≤ depthMost → natAbs u ≤ velocityMost → momentumFlux t X h u ≤ 10_240_000_000_000
+unfolding momentumFlux
 momentum-flux-most t X h u g d v = ⊎-elim dry wet (eq-zero-or-pos h)
   where
     dry : h ≡ 0 → momentumFlux t X h u ≤ 10_240_000_000_000
     dry e = omega (arith, ap (λ (k : ℕ). momentumFlux t X k u) e ∙ momentum-flux-dry t X u)
 
-    of-wet : 0 < h → momentumOf t X h (waveSpeed h) (upper (waveSpeed h) u) (lower (waveSpeed h) u) ≤ 10_240_000_000_000
-    of-wet w = momentum-of-most g (spectrum-of h u d v w)
-
     wet : 0 < h → momentumFlux t X h u ≤ 10_240_000_000_000
-    wet w = subst (λ (k : ℕ). k ≤ 10_240_000_000_000) (momentum-flux-by t X h u) (of-wet w)
+    wet w = momentum-of-most g d _ (moment-most (spectrum-of h u d v w))
 
 -- the same of a velocity right − left
 pub momentum-flux-small : {t X h a right left : ℕ} → Mesh t X → Flow h a right left → momentumFlux t X h (subℕ right left) ≤ 10_240_000_000_000
@@ -277,8 +265,8 @@ moment-still (suc a) =
     let d : 6 * suc a ≡ suc a * 6 = omega arith in
     rw (e, d) (mul-div-mul-left _ 6 (omega arith))
 
-pub still-thrust-is : (t X h : ℕ) → stillThrust t X h ≡ 2 * (h * t * (waveSpeed h * waveSpeed h / 6) / (1_000 * X))
-unfolding stillThrust momentumFlux momentumOf
+pub still-thrust-is : (t X h : ℕ) → stillThrust t X h ≡ 2 * momentumOf t X h (waveSpeed h * waveSpeed h / 6)
+unfolding stillThrust momentumFlux
 still-thrust-is t X h = rw (rest-upper (waveSpeed h), rest-lower (waveSpeed h), moment-still (waveSpeed h))
   where
     rest-upper : (a : ℕ) → upper a (pos 0) ≡ a
@@ -286,6 +274,3 @@ still-thrust-is t X h = rw (rest-upper (waveSpeed h), rest-lower (waveSpeed h), 
 
     rest-lower : (a : ℕ) → lower a (pos 0) ≡ 0
     rest-lower a = omega (arith, lower-parts a (pos 0))
-
-pub square-sixth : (a : ℕ) → a ≤ 8_000 → a * a / 6 ≤ 10_666_666
-square-sixth a l = omega (arith, mul-le-mul l l)

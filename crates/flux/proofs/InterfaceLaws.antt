@@ -1,15 +1,11 @@
 -- Laws of an interface: the reduced depth is at most the depth, a wall passes no water, and a cell that meets CFL sends no more
 -- than it holds, whatever stands beside it. Assumes nothing.
 use mathlib.Core.Path.{_≡_, refl, ap, _∙_}
-use mathlib.Core.Bool.{cond}
 use mathlib.Core.Logic.{⊎-elim}
 use Prim.Native.Nat.{ℕ, _+_, _*_, _-_, _≤_, _<_}
 use native.Mathlib.Omega.{arith}
 use lib.IntN.{ℤ, pos, _+ℤ_, _-ℤ_, negℤ, subℕ, natAbs, negℤ-negℤ, +ℤ-invr}
-use lib.Signed.{leZ, leZ-yes, _≤ℤ_}
-use Rattle.numbers.specs.Signed.{positive, maxℤ}
-use Rattle.numbers.proofs.SearchLaws.{by-test}
-use Rattle.numbers.proofs.SignedLaws.{R, L, pos-cross, add-cross, minus-cross, one-part, le-cross, leZ-no, pos-minus}
+use Rattle.numbers.proofs.SignedLaws.{R, L, pos-cross, add-cross, minus-cross, one-part, le-cross, max-cases, pos-minus}
 use Rattle.flux.specs.Wave.{waveSpeed}
 use Rattle.flux.specs.Crossing.{waterFlux}
 use Rattle.flux.specs.Interface.{Side, reducedDepth, leftDepth, rightDepth, netWater, mirrored}
@@ -29,17 +25,17 @@ taken-off h z m l =
 
 -- h* is h less what the bed beside it stands higher
 pub reduced-depth-is : (h : ℕ) (z w : ℤ) → reducedDepth h z w ≡ h - R (w -ℤ z)
-unfolding reducedDepth maxℤ
+unfolding reducedDepth
 reduced-depth-is h z w =
-    by-test (leZ z w) (λ b. positive (pos h +ℤ z -ℤ cond b w z) ≡ h - R (w -ℤ z))
-    (λ t. taken-off h z w (le-cross z w (leZ-yes t)))
-    (λ t. not-higher (le-cross w z (leZ-no z w t)))
+    ⊎-elim
+    (λ m. rw (m .0) (taken-off h z w (le-cross z w (m .1))))
+    (λ m. rw (m .0) (taken-off h z z (omega arith) ∙ not-higher (le-cross w z (m .1))))
+    (max-cases z w)
   where
-    not-higher : R w + L z ≤ R z + L w → R (pos h +ℤ z -ℤ z) ≡ h - R (w -ℤ z)
+    not-higher : R w + L z ≤ R z + L w → h - R (z -ℤ z) ≡ h - R (w -ℤ z)
     not-higher l =
         let e = minus-cross w z in
         let f = minus-cross z z in
-        let k = taken-off h z z (omega arith) in
         ⊎-elim
         (λ p. ⊎-elim (λ q. omega arith) (λ q. omega arith) (one-part (z -ℤ z)))
         (λ p. ⊎-elim (λ q. omega arith) (λ q. omega arith) (one-part (z -ℤ z)))
@@ -65,8 +61,10 @@ net-water-is t X l r =
 pub wall-passes-nothing : (t X : ℕ) (s : Side) → (netWater t X s (mirrored s) ≡ pos 0) × (netWater t X (mirrored s) s ≡ pos 0)
 unfolding netWater leftDepth rightDepth mirrored
 wall-passes-nothing t X s =
-    let sent : ℤ → ℕ = λ u. waterFlux t X (reducedDepth (s .depth) (s .bed) (s .bed)) u in
-    (rw negℤ-negℤ (+ℤ-invr (pos (sent (s .velocity)))), +ℤ-invr (pos (sent (negℤ (s .velocity)))))
+    let sent : ℤ → ℕ = λ u. waterFlux t X (reducedDepth (s .depth) (s .bed) (s .bed)) u in (
+      ap (λ (u : ℤ). pos (sent (s .velocity)) -ℤ pos (sent u)) (negℤ-negℤ (s .velocity)) ∙ +ℤ-invr (pos (sent (s .velocity))),
+      +ℤ-invr (pos (sent (negℤ (s .velocity)))),
+    )
 
 -- by both its interfaces a cell c between l and r sends at most its depth, where it meets CFL
 pub cell-outflow-le-depth : (t X : ℕ) (l c r : Side) → 0 < X → t * (natAbs (c .velocity) + waveSpeed (c .depth)) ≤ 1_000 * X

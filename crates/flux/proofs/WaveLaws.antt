@@ -6,6 +6,7 @@ use lib.Dec.{lit≤}
 use Rattle.numbers.proofs.RootLaws.{square-root-mono, square-root-greatest, square-root-is}
 use Rattle.flux.specs.Wave.{waveSpeed}
 use Rattle.flux.specs.Limits.{depthMost}
+use Rattle.flux.specs.Ranges.{waveMost}
 
 pub wave-speed-mono : (h k : ℕ) → h ≤ k → waveSpeed h ≤ waveSpeed k
 unfolding waveSpeed
@@ -19,6 +20,5 @@ deepest : waveSpeed depthMost ≡ 7_670
 unfolding waveSpeed
 deepest = square-root-is 7_670 _ (lit≤ tt) (lit≤ tt)
 
--- a round bound, with room for a speed that is rounded up
-pub wave-speed-most : (h : ℕ) → h ≤ depthMost → waveSpeed h ≤ 8_000
+pub wave-speed-most : (h : ℕ) → h ≤ depthMost → waveSpeed h ≤ waveMost
 wave-speed-most h l = omega (arith, wave-speed-mono h depthMost l, deepest)

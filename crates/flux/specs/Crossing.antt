@@ -25,13 +25,13 @@ waterFlux t X h u = waterOf t X h (waveSpeed h) (upper (waveSpeed h) u) (lower (
 unfoldable pub secondMoment : (a A B : ℕ) → ℕ
 secondMoment a A B = (A * A * A - B * B * B) / (6 * a)
 
--- Q of given a, A and B: floor(h·t·K / (1,000·X))
-unfoldable pub momentumOf : (t X h a A B : ℕ) → ℕ
-momentumOf t X h a A B = h * t * secondMoment a A B / (1_000 * X)
+-- Q of a given K: floor(h·t·K / (1,000·X))
+unfoldable pub momentumOf : (t X h K : ℕ) → ℕ
+momentumOf t X h K = h * t * K / (1_000 * X)
 
 -- Q(h,u), momentum
 unfoldable pub momentumFlux : (t X h : ℕ) (u : ℤ) → ℕ
-momentumFlux t X h u = momentumOf t X h (waveSpeed h) (upper (waveSpeed h) u) (lower (waveSpeed h) u)
+momentumFlux t X h u = momentumOf t X h (secondMoment (waveSpeed h) (upper (waveSpeed h) u) (lower (waveSpeed h) u))
 
 -- S(h) = 2·Q(h,0), the thrust of still water
 unfoldable pub stillThrust : (t X h : ℕ) → ℕ

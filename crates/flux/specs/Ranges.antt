@@ -4,6 +4,13 @@ use Prim.Native.Nat.{ℕ, _+_, _*_, _≤_, _<_}
 use Rattle.flux.specs.Limits.{depthMost, velocityMost, timeStepMost, cellLengthLeast, cellLengthMost}
 use Rattle.flux.specs.Wave.{waveSpeed}
 
+-- a round bound of the wave speed, with room for one that is rounded up, and of K, which is at most A²
+abbrev pub waveMost : ℕ
+waveMost = 8_000
+
+abbrev pub momentMost : ℕ
+momentMost = 256_000_000
+
 -- a time step and a cell length
 pub record Mesh (t X : ℕ) : Type 0 where
   pub time : t ≤ timeStepMost
@@ -17,11 +24,10 @@ pub record Flow (h a right left : ℕ) : Type 0 where
   pub right-most : right ≤ velocityMost
   pub left-most : left ≤ velocityMost
 
--- what W and Q of a wet depth are computed from: the wave speed a, and A and B
-pub record Spectrum (h a A B : ℕ) : Type 0 where
-  pub depth : h ≤ depthMost
+-- what W and K of a wet depth are computed from: the wave speed a, and A and B
+pub record Spectrum (a A B : ℕ) : Type 0 where
   pub wet : 0 < a
-  pub wave : a ≤ 8_000
-  pub upper : A ≤ 16_000
+  pub wave : a ≤ waveMost
+  pub upper : A ≤ waveMost + velocityMost
   pub lower : B ≤ A
   pub width : A ≤ B + 2 * a

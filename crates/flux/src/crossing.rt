@@ -2,8 +2,9 @@
 ghost use mathlib.Core.Path.{_≡_};
 ghost use Prim.Native.Nat.{_*_, _≤_};
 ghost use lib.IntN.{subℕ};
-ghost use Rattle.flux.specs.Crossing.{upper, lower, waterOf, momentumOf, waterFlux, momentumFlux, stillThrust};
-ghost use Rattle.flux.specs.Ranges.{Mesh, Flow, Spectrum};
+ghost use Rattle.flux.specs.Limits.{depthMost, velocityMost};
+ghost use Rattle.flux.specs.Crossing.{upper, lower, waterOf, secondMoment, momentumOf, waterFlux, momentumFlux, stillThrust};
+ghost use Rattle.flux.specs.Ranges.{Mesh, Flow, Spectrum, momentMost, waveMost};
 use numbers::signed::excess;
 
 // A and B: of the speeds of a cell, those that go rightwards are lower..upper
@@ -13,7 +14,7 @@ struct Rightgoing {
 }
 
 fn rightgoing_of(a: u64, right: u64, left: u64) -> Rightgoing
-    requires { ⌜ (a ≤ 8_000) × ((right ≤ 8_000) × (left ≤ 8_000)) ⌝ }
+    requires { ⌜ (a ≤ waveMost) × ((right ≤ velocityMost) × (left ≤ velocityMost)) ⌝ }
     ensures { λ r. ⌜ (r .upper ≡ upper a (subℕ right left)) × (r .lower ≡ lower a (subℕ right left)) ⌝ }
 {
     Rightgoing {
@@ -24,18 +25,25 @@ fn rightgoing_of(a: u64, right: u64, left: u64) -> Rightgoing
 
 // W of a wet depth
 fn water_of(t: u64, x: u64, h: u64, a: u64, upper: u64, lower: u64) -> u64
-    requires { ⌜ Mesh t x × Spectrum h a upper lower ⌝ }
+    requires { ⌜ Mesh t x × ((h ≤ depthMost) × Spectrum a upper lower) ⌝ }
     ensures { λ r. ⌜ r ≡ waterOf t x h a upper lower ⌝ }
 {
     h * t * (upper * upper - lower * lower) / (4_000 * a * x)
 }
 
-// Q of a wet depth
-fn momentum_of(t: u64, x: u64, h: u64, a: u64, upper: u64, lower: u64) -> u64
-    requires { ⌜ Mesh t x × Spectrum h a upper lower ⌝ }
-    ensures { λ r. ⌜ r ≡ momentumOf t x h a upper lower ⌝ }
+// K of a wet depth
+fn second_moment(a: u64, upper: u64, lower: u64) -> u64
+    requires { ⌜ Spectrum a upper lower ⌝ }
+    ensures { λ r. ⌜ r ≡ secondMoment a upper lower ⌝ }
 {
-    let k = (upper * upper * upper - lower * lower * lower) / (6 * a);
+    (upper * upper * upper - lower * lower * lower) / (6 * a)
+}
+
+// Q of a given K
+fn momentum_of(t: u64, x: u64, h: u64, k: u64) -> u64
+    requires { ⌜ Mesh t x × ((h ≤ depthMost) × (k ≤ momentMost)) ⌝ }
+    ensures { λ r. ⌜ r ≡ momentumOf t x h k ⌝ }
+{
     h * t * k / (1_000 * x)
 }
 
@@ -59,7 +67,7 @@ pub fn crossing_of(t: u64, x: u64, h: u64, a: u64, right: u64, left: u64) -> Cro
     let s = rightgoing_of(a, right, left);
     Crossing {
         water: water_of(t, x, h, a, s.upper, s.lower),
-        momentum: momentum_of(t, x, h, a, s.upper, s.lower),
+        momentum: momentum_of(t, x, h, second_moment(a, s.upper, s.lower)),
     }
 }
 
@@ -68,5 +76,5 @@ pub fn still_thrust(t: u64, x: u64, h: u64, a: u64) -> u64
     requires { ⌜ Mesh t x × Flow h a 0 0 ⌝ }
     ensures { λ r. ⌜ r ≡ stillThrust t x h ⌝ }
 {
-    2 * (h * t * (a * a / 6) / (1_000 * x))
+    2 * momentum_of(t, x, h, a * a / 6)
 }

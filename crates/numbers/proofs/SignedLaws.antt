@@ -8,8 +8,8 @@ use lib.IntN.{ℤ, pos, negsuc, _+ℤ_, _-ℤ_, negℤ, natAbs, subℕ, negℤ-n
 use lib.Dec.{T, ltb, ltb→lt, nltb→le, leb→le, le→leb, nleb→lt}
 use native.Mathlib.Nat.{le-of-lt}
 use mathlib.Core.Logic.{_⊎_, inl, inr, ⊎-elim}
-use lib.Signed.{mag, _≤ℤ_, leZ}
-use Rattle.numbers.specs.Signed.{positive}
+use lib.Signed.{mag, _≤ℤ_, leZ, leZ-yes}
+use Rattle.numbers.specs.Signed.{positive, maxℤ}
 use borrow.Author.Tests.{lt-ltb, le-ltb}
 
 -- a − b by cases: it is not negative, or it is
@@ -164,3 +164,12 @@ leZ-no (pos m) (pos n) t = record { le = le→leb n m (le-of-lt (nleb→lt m n t
 leZ-no (pos m) (negsuc n) t = record { le = tt }
 leZ-no (negsuc m) (pos n) t = absurd t
 leZ-no (negsuc m) (negsuc n) t = record { le = le→leb m n (le-of-lt (nleb→lt n m t)) }
+
+-- the larger of two is one of them, and not below the other
+pub max-cases : (y z : ℤ) → ((maxℤ y z ≡ z) × (y ≤ℤ z)) ⊎ ((maxℤ y z ≡ y) × (z ≤ℤ y))
+unfolding maxℤ
+max-cases y z = go (leZ y z) leZ-yes (leZ-no y z)
+  where
+    go : (b : Bool) → (T b → y ≤ℤ z) → (T (not b) → z ≤ℤ y) → ((cond b z y ≡ z) × (y ≤ℤ z)) ⊎ ((cond b z y ≡ y) × (z ≤ℤ y))
+    go true p q = inl (refl, p tt)
+    go false p q = inr (refl, q tt)

@@ -1,0 +1,7 @@
+//! Links the static library that `rt staticlib harness` wrote.
+fn main() {
+    let library = concat!(env!("CARGO_MANIFEST_DIR"), "/../../target/staticlib");
+    println!("cargo:rustc-link-search=native={library}");
+    println!("cargo:rustc-link-lib=static=harness");
+    println!("cargo:rerun-if-changed={library}/libharness.a");
+}
