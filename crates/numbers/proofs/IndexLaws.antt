@@ -1,13 +1,17 @@
--- Laws of tests by index. Assumes nothing.
-use mathlib.Core.Path.{_≡_, refl}
+-- Laws of tests, lists and sums by index, and of a column that is written in place. Assumes nothing.
+use mathlib.Core.Path.{_≡_, refl, sym, ap, _∙_}
 use mathlib.Core.Logic.{⊎-elim}
 use mathlib.Core.List.{List, [], _∷_}
-use mathlib.Core.Bool.{Bool, true, false, _&&_, and-false}
-use Prim.Native.Nat.{ℕ, zero, suc, _+_, _<_}
+use mathlib.Core.Bool.{Bool, true, false, _&&_, and-false, and-true}
+use Prim.Native.Nat.{ℕ, zero, suc, _+_, _≤_, _<_}
 use native.Mathlib.Nat.{not-suc-le-zero, le-of-suc-le-suc, eq-or-lt-of-le}
 use native.Mathlib.Numerals.{add-one}
-use lib.ListN.{getD}
-use Rattle.numbers.specs.Index.{allBelow, allOf}
+use native.Mathlib.Omega.{arith}
+use lib.ListN.{length, getD, set, length-set}
+use lib.Seq.{ext-getD, getD-set-same, getD-set-other}
+use Rattle.numbers.specs.Index.{allBelow, allOf, tabulate, sumBelow, sum}
+
+-- ---- tests
 
 pub and-both : (a b : Bool) → a ≡ true → b ≡ true → (a && b) ≡ true
 and-both a b p q = rw (p, q)
@@ -53,3 +57,79 @@ module _ (f : ℕ → Bool) where
       (λ e. rw (← e, q) (and-false (allBelow i f)))
       (λ k. rw (all-fails n i k q) refl)
       (eq-or-lt-of-le (le-of-suc-le-suc l))
+
+-- ---- lists by index
+
+module _ {A : Type 0} where
+  pub length-tabulate : (n : ℕ) (f : ℕ → A) → length (tabulate n f) ≡ n
+  unfolding tabulate
+  length-tabulate zero f = refl
+  length-tabulate (suc n) f = ap suc (length-tabulate n (λ i. f (suc i)))
+
+  pub getD-tabulate : (n : ℕ) (f : ℕ → A) (i : ℕ) (d : A) → i < n → getD (tabulate n f) i d ≡ f i
+  unfolding tabulate
+  getD-tabulate zero f i d l = absurd (not-suc-le-zero l)
+  getD-tabulate (suc n) f zero d l = refl
+  getD-tabulate (suc n) f (suc i) d l = getD-tabulate n (λ j. f (suc j)) i d (le-of-suc-le-suc l)
+
+  -- a list is f by index where each entry is
+  pub by-index : (n : ℕ) (f : ℕ → A) (d : A) (l : List A) → length l ≡ n → ((i : ℕ) → i < n → getD l i d ≡ f i) → l ≡ tabulate n f
+  by-index n f d l e h =
+      ext-getD d l (tabulate n f) (e ∙ sym (length-tabulate n f))
+      (λ i k. let k′ : i < n = omega arith in h i k′ ∙ sym (getD-tabulate n f i d k′))
+
+-- A list l whose first i entries have been written as f, and whose others are d's: what a loop keeps that writes a column from the front.
+pub record Written {A : Type 0} (z : A) (f : ℕ → A) (d : List A) (i : ℕ) (l : List A) : Type 0 where
+  pub long : length l ≡ length d
+  pub done : (k : ℕ) → k < i → getD l k z ≡ f k
+  pub same : (k : ℕ) → i ≤ k → getD l k z ≡ getD d k z
+
+module _ {A : Type 0} (z : A) (f : ℕ → A) (d : List A) where
+  pub written-none : Written z f d 0 d
+  written-none = record { long = refl; done = λ k l. absurd (not-suc-le-zero l); same = λ k l. refl }
+
+  pub written-more : (i : ℕ) (l : List A) (v : A) → Written z f d i l → i < length d → v ≡ f i → Written z f d (i + 1) (set l i v)
+  written-more i l v w h e = record {
+    long = length-set l i v ∙ w .long;
+    done = λ k q. ⊎-elim (λ s. rw s (getD-set-same l i v z (omega (arith, w .long)) ∙ e)) (λ s. getD-set-other l i k v z (λ x. absurd (omega arith)) ∙ w .done k s) (eq-or-lt-of-le (le-of-suc-le-suc (rw add-one at q)));
+    same = λ k q. getD-set-other l i k v z (λ x. absurd (omega arith)) ∙ w .same k (omega arith);
+  }
+
+  pub written-all : (i : ℕ) (l : List A) → Written z f d i l → i ≡ length d → l ≡ tabulate (length d) f
+  written-all i l w e = by-index (length d) f z l (w .long) (λ k q. w .done k (omega arith))
+
+-- ---- sums
+
+-- what crosses from one index to the next cancels: a runs up, b runs down
+pub telescope : (n : ℕ) (new old a b : ℕ → ℕ) → ((i : ℕ) → i < n → new i + a (suc i) + b i ≡ old i + a i + b (suc i)) → sumBelow n new + a n + b 0 ≡ sumBelow n old + a 0 + b n
+unfolding sumBelow
+telescope zero new old a b h = refl
+telescope (suc n) new old a b h = omega (arith, telescope n new old a b (λ i l. h i (omega arith)), h n (omega arith))
+
+sum-first : (n : ℕ) (f : ℕ → ℕ) → sumBelow (suc n) f ≡ f 0 + sumBelow n (λ i. f (suc i))
+unfolding sumBelow
+sum-first zero f = omega arith
+sum-first (suc n) f = omega (arith, sum-first n f)
+
+pub sum-tabulate : (n : ℕ) (f : ℕ → ℕ) → sum (tabulate n f) ≡ sumBelow n f
+unfolding tabulate sum sumBelow
+sum-tabulate zero f = refl
+sum-tabulate (suc n) f = omega (arith, sum-tabulate n (λ i. f (suc i)), sum-first n f)
+
+pub sum-by-index : (l : List ℕ) → sum l ≡ sumBelow (length l) (λ i. getD l i 0)
+unfolding sum sumBelow
+sum-by-index [] = refl
+sum-by-index (x ∷ l) = omega (arith, sum-by-index l, sum-first (length l) (λ i. getD (x ∷ l) i 0))
+
+-- a list of tests, test by test, as code that returns at the first that fails
+pub on : (t : Bool) (ts : List Bool) {x : Bool} → t ≡ true → allOf ts ≡ x → allOf (t ∷ ts) ≡ x
+unfolding allOf
+on t ts {x} e f = rw e f
+
+pub off : (t : Bool) (ts : List Bool) → t ≡ false → allOf (t ∷ ts) ≡ false
+unfolding allOf
+off t ts e = rw e refl
+
+pub only : (t : Bool) → allOf (t ∷ []) ≡ t
+unfolding allOf
+only t = and-true t

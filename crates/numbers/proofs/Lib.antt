@@ -1,4 +1,5 @@
 pub mod IndexLaws
 pub mod RootLaws
 pub mod SearchLaws
+pub mod SharesLaws
 pub mod SignedLaws

@@ -1,16 +1,20 @@
 -- Whole numbers as differences of two natural ones: each equation and each order of sums in ℤ becomes one of sums in ℕ, for omega.
 -- `subℕ a b` is a − b.
 use mathlib.Core.Path.{_≡_, refl, sym, ap, subst, _∙_}
-use mathlib.Core.Bool.{Bool, true, false, not, cond}
+use mathlib.Core.Bool.{Bool, true, false, not, cond, _&&_}
 use Prim.Native.Nat.{ℕ, zero, suc, _+_, _-_, _*_, _≤_, _<_}
 use native.Mathlib.Omega.{arith}
 use lib.IntN.{ℤ, pos, negsuc, _+ℤ_, _-ℤ_, negℤ, natAbs, subℕ, negℤ-negℤ}
-use lib.Dec.{T, ltb, ltb→lt, nltb→le, leb→le, le→leb, nleb→lt}
+use lib.Dec.{T, eqb, ltb, ltb→lt, nltb→le, leb→le, le→leb, nleb→lt}
 use native.Mathlib.Nat.{le-of-lt}
 use mathlib.Core.Logic.{_⊎_, inl, inr, ⊎-elim}
 use lib.Signed.{mag, _≤ℤ_, leZ, leZ-yes}
-use Rattle.numbers.specs.Signed.{positive, maxℤ}
-use borrow.Author.Tests.{lt-ltb, le-ltb}
+use Rattle.numbers.specs.Signed.{positive, maxℤ, eqℤ}
+use borrow.Author.Tests.{lt-ltb, le-ltb, eqb-true, eqb-false}
+
+T-true : (b : Bool) → T b → b ≡ true
+T-true true t = refl
+T-true false t = absurd t
 
 -- a − b by cases: it is not negative, or it is
 pub at-least : (a b : ℕ) → b ≤ a → subℕ a b ≡ pos (a - b)
@@ -148,6 +152,10 @@ cross-le (pos m) (negsuc n) h = absurd (omega (arith, no-left m))
 cross-le (negsuc m) (pos n) h = record { le = tt }
 cross-le (negsuc m) (negsuc n) h = record { le = le→leb n m (omega arith) }
 
+pub abs-fits : (z : ℤ) {n : ℕ} → mag z < n → natAbs z ≤ n
+abs-fits (pos k) l = omega arith
+abs-fits (negsuc k) l = omega arith
+
 pub abs-add : (y z : ℤ) → natAbs (y +ℤ z) ≤ natAbs y + natAbs z
 abs-add y z =
     ⊎-elim
@@ -173,3 +181,22 @@ max-cases y z = go (leZ y z) leZ-yes (leZ-no y z)
     go : (b : Bool) → (T b → y ≤ℤ z) → (T (not b) → z ≤ℤ y) → ((cond b z y ≡ z) × (y ≤ℤ z)) ⊎ ((cond b z y ≡ y) × (z ≤ℤ y))
     go true p q = inl (refl, p tt)
     go false p q = inr (refl, q tt)
+
+-- the test of equality, as one of sums
+pub eqℤ-is : (y z : ℤ) → eqℤ y z ≡ eqb (R y + L z) (R z + L y)
+unfolding eqℤ
+eqℤ-is y z = go (leZ y z) (leZ z y) (eqb (R y + L z) (R z + L y)) refl refl refl
+  where
+    holds : (y z : ℤ) → R y + L z ≤ R z + L y → leZ y z ≡ true
+    holds y z l = T-true (leZ y z) (cross-le y z l .le)
+
+    said : (y z : ℤ) → leZ y z ≡ true → R y + L z ≤ R z + L y
+    said y z e = le-cross y z (record { le = subst T (sym e) tt })
+
+    go : (a b c : Bool) → leZ y z ≡ a → leZ z y ≡ b → eqb (R y + L z) (R z + L y) ≡ c → (a && b) ≡ c
+    go true true true p q r = refl
+    go true true false p q r = absurd (eqb-false (R y + L z) (R z + L y) r (omega (arith, said y z p, said z y q)))
+    go true false true p q r = sym q ∙ holds z y (let e = eqb-true (R y + L z) (R z + L y) r in omega arith)
+    go true false false p q r = refl
+    go false b true p q r = sym p ∙ holds y z (let e = eqb-true (R y + L z) (R z + L y) r in omega arith)
+    go false b false p q r = refl

@@ -1,4 +1,5 @@
 pub mod Index
 pub mod Search
 pub mod Root
+pub mod Shares
 pub mod Signed

@@ -1,5 +1,5 @@
 -- Signed whole numbers by their two parts. A signed z is max(z,0) − max(−z,0); `subℕ p n` of the library is p − n in ℤ.
-use mathlib.Core.Bool.{cond}
+use mathlib.Core.Bool.{Bool, cond, _&&_}
 use Prim.Native.Nat.{ℕ}
 use lib.IntN.{ℤ, pos, negsuc}
 use lib.Signed.{leZ}
@@ -12,3 +12,7 @@ positive (negsuc n) = 0
 -- the larger of two
 unfoldable pub maxℤ : ℤ → ℤ → ℤ
 maxℤ y z = cond (leZ y z) z y
+
+-- whether two are equal
+unfoldable pub eqℤ : ℤ → ℤ → Bool
+eqℤ y z = leZ y z && leZ z y

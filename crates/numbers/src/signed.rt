@@ -1,7 +1,7 @@
 // Signed numbers and their two parts: max(z,0), 'right', and max(−z,0), 'left'.
 ghost use mathlib.Core.Path.{_≡_};
 ghost use Prim.Native.Nat.{_-_, _<_};
-ghost use lib.IntN.{negℤ, subℕ};
+ghost use lib.IntN.{natAbs, negℤ, subℕ};
 ghost use Rattle.numbers.specs.Signed.{positive};
 
 // A signed number right − left. Where each part is what its name says of a number, one of the two is 0.
@@ -22,6 +22,13 @@ pub fn left_part(z: i64) -> u64
     ensures { λ r. ⌜ r ≡ positive (negℤ z) ⌝ }
 {
     if z < 0 { (-1 - z) as u64 + 1 } else { 0 }
+}
+
+// |z|
+pub fn magnitude(z: i64) -> u64
+    ensures { λ r. ⌜ r ≡ natAbs z ⌝ }
+{
+    right_part(z) + left_part(z)
 }
 
 // right − left as a signed number

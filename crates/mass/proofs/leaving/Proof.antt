@@ -1,0 +1,106 @@
+-- `mass::leaving` meets its contract. Assumes nothing.
+use mathlib.Core.Path.{_≡_, sym, ap, ap₂, _∙_}
+use denote.Ref.{now}
+use Prim.Native.Nat.{ℕ, _+_, _≤_, _<_}
+use native.Mathlib.Omega.{arith}
+use lib.IntN.{ℤ, pos, negℤ}
+use lib.ListN.{length, getD}
+use mir.Facts.{toZ-ofZ}
+use borrow.Author.Needs.{sfits-of}
+use Rattle.numbers.specs.Shares.{share}
+use Rattle.numbers.specs.Signed.{positive}
+use Rattle.mass.specs.Transport.{Columns, columns, outRight, outLeft, rightShare, leftShare}
+use Rattle.mass.proofs.TransportLaws.{leftwards-cell, leftwards-end}
+use borrow.Author.Needs.{needs}
+use Rattle.mass.proofs.leaving.Statement.{statement}
+use Rattle.mass.proofs.leaving.Tie as tie
+
+abbrev entry : tie.After-left-part → tie.Start
+entry c = c .before .before .before .before .before .before .before .before .before
+
+abbrev col : tie.Start → Columns
+col s = columns (now (s .args .m)) (now (s .args .b)) (now (s .args .c)) 0 (s .args .right-in)
+
+right-is : (c : tie.After-left-part) → c .before .before .right-part .result ≡ outRight (col (entry c)) (entry c .args .i)
+right-is c = rw (toZ-ofZ (sfits-of (c .before .before .before .right-part-arg .given))) at (c .before .before .right-part .ensures)
+
+left-is : (c : tie.After-left-part) → c .left-part .result ≡ outLeft (col (entry c)) (entry c .args .i)
+left-is c = rw (toZ-ofZ (sfits-of (c .before .left-part-arg .given))) at (c .left-part .ensures)
+
+mul-shares-of : tie.Need-mul-shares-of
+mul-shares-of c = search needs
+
+shared-slice-read-shares-of : tie.Need-shared-slice-read-shares-of
+shared-slice-read-shares-of c = search needs
+
+mul-shares-of-2 : tie.Need-mul-shares-of-2
+mul-shares-of-2 c = search needs
+
+shared-slice-read-shares-of-2 : tie.Need-shared-slice-read-shares-of-2
+shared-slice-read-shares-of-2 c = search needs
+
+add-right-part : tie.Need-add-right-part
+add-right-part c = search needs
+
+mul-right-part : tie.Need-mul-right-part
+mul-right-part c = search needs
+
+shared-slice-copy-out-right-part : tie.Need-shared-slice-copy-out-right-part
+shared-slice-copy-out-right-part c = search needs
+
+right-part-requires : tie.Need-right-part-requires
+right-part-requires c κs = search needs
+
+mul-left-part : tie.Need-mul-left-part
+mul-left-part c = search needs
+
+shared-slice-copy-out-left-part : tie.Need-shared-slice-copy-out-left-part
+shared-slice-copy-out-left-part c = search needs
+
+left-part-requires : tie.Need-left-part-requires
+left-part-requires c κs = search needs
+
+shares-of-requires : tie.Need-shares-of-requires
+shares-of-requires c κs =
+    let s = entry c in
+    let g = s .pre .0 .giving (c .before .before .before .before .before .before .if1 .taken) in
+    record { deep = g .deep; rich = g .rich; covered = omega (arith, right-is c, left-is c, g .covered) }
+
+returns : tie.Need-returns
+unfolding rightShare leftShare
+returns c =
+    let b = c .before in
+    let s = entry b in
+    let x = col s in
+    let i = s .args .i in
+    let l = b .before .before .before .before .before .before .if1 .taken in
+    let share-of = share (getD (x .mass) i 0) (getD (x .base) i 0) in (
+      c .shares-of .ensures .1 ∙ ap₂ share-of (right-is b) (left-is b) ∙ sym (leftwards-cell x i l),
+      λ _. c .shares-of .ensures .0 ∙ ap (share-of 0) (right-is b),
+    )
+
+returns-2 : tie.Need-returns-2
+returns-2 c =
+    let s = c .before .before .before in (
+      sym (leftwards-end (col s) (s .args .i) (c .if1 .left)),
+      λ l. absurd (omega (arith, l, c .if1 .left)),
+    )
+
+pub leaving-spec : {M : Type 1} → statement M
+leaving-spec =
+    tie.close
+    (tie.spec
+    mul-shares-of
+    shared-slice-read-shares-of
+    mul-shares-of-2
+    shared-slice-read-shares-of-2
+    add-right-part
+    mul-right-part
+    shared-slice-copy-out-right-part
+    right-part-requires
+    mul-left-part
+    shared-slice-copy-out-left-part
+    left-part-requires
+    shares-of-requires
+    returns
+    returns-2)

@@ -1,0 +1,176 @@
+-- `mass::move_mass` meets its contract: what crosses the next interface is known before a cell is written, and a cell that is not
+-- written yet is read as it came. Assumes nothing.
+use mathlib.Core.Path.{_≡_, refl, sym, ap, _∙_}
+use denote.Ref.{now}
+use Prim.Native.Nat.{ℕ, _+_, _-_, _≤_, _<_}
+use native.Mathlib.Omega.{arith}
+use borrow.Author.Needs.{needs}
+use lib.ListN.{length, getD}
+use Rattle.numbers.proofs.IndexLaws.{Written, written-none, written-more, written-all}
+use Rattle.mass.specs.Transport.{Columns, columns, rightShare, leftShare, leftwards, rightwards, movedCell, movedMass}
+use Rattle.mass.proofs.TransportLaws.{rightwards-next, leftwards-cell, moved-is, shares-fit, mass-small, leftwards-small, rightwards-small, ready-same, right-share-same, leftwards-same}
+use Rattle.mass.proofs.move_mass.Statement.{statement}
+use Rattle.mass.proofs.move_mass.Tie as tie
+
+abbrev Inv-loop : tie.InvT-loop
+Inv-loop m₀ b c left-in right-in n from-left₀ out₀ i₀ m from-left out i =
+    let s = columns m₀ b c left-in right-in in
+    (i ≤ n)
+    × Written 0 (movedCell s) m₀ i m
+    × (from-left ≡ rightwards s i)
+    × (out .left ≡ leftwards s i)
+    × (i < length m₀ → out .right ≡ rightShare s i)
+
+abbrev μ-loop : tie.MeasureT-loop
+μ-loop m₀ b c left-in right-in n from-left₀ out₀ i₀ m from-left out i = n - i
+
+abbrev col : tie.Start Inv-loop μ-loop → Columns
+col s = columns (now (s .args .m)) (now (s .args .b)) (now (s .args .c)) (s .args .left-in) (s .args .right-in)
+
+abbrev entry : tie.After-leaving2 Inv-loop μ-loop → tie.Start Inv-loop μ-loop
+entry c = c .before .before .before .before .before .before .before .before
+
+abbrev at : tie.After-leaving2 Inv-loop μ-loop → ℕ
+at c = c .before .before .before .loop .i
+
+right-now : (c : tie.After-leaving2 Inv-loop μ-loop) → c .before .before .before .loop .out .right ≡ rightShare (col (entry c)) (at c)
+right-now c = c .before .before .before .loop .inv .4 (omega arith)
+
+next-left : (c : tie.After-leaving2 Inv-loop μ-loop) → c .leaving2 .result .left ≡ leftwards (col (entry c)) (at c + 1)
+next-left c =
+    let w = c .before .before .before .loop .inv .1 in
+    c .leaving2 .ensures .0 ∙ leftwards-same _ _ _ _ 0 (entry c .args .left-in) _ (w .long) (at c + 1) (w .same (at c + 1) (omega arith))
+
+next-right : (c : tie.After-leaving2 Inv-loop μ-loop) → at c + 1 < length (now (entry c .args .m)) → c .leaving2 .result .right ≡ rightShare (col (entry c)) (at c + 1)
+next-right c l =
+    let w = c .before .before .before .loop .inv .1 in
+    c .leaving2 .ensures .1 (omega (arith, w .long))
+    ∙ right-share-same _ _ _ _ 0 (entry c .args .left-in) (entry c .args .right-in) (w .long) (at c + 1) (w .same (at c + 1) (omega arith))
+
+-- the amounts at cell i, and that they are small
+facts : (c : tie.After-leaving2 Inv-loop μ-loop) →
+    let s = col (entry c) in
+    let i = at c in
+    let o = c .before .before .before .loop .out in
+    (o .right + o .left ≤ getD (s .mass) i 0) × (getD (s .mass) i 0 ≤ 2_000_000_000_000)
+    × (c .before .before .before .loop .from-left ≤ 2_000_000_000_000)
+    × (c .leaving2 .result .left ≤ 2_000_000_000_000)
+    × (o .left ≡ leftShare s i) × (o .right ≡ rightShare s i)
+    × (c .before .before .before .loop .from-left ≡ rightwards s i)
+    × (c .leaving2 .result .left ≡ leftwards s (i + 1))
+facts c =
+    let s = col (entry c) in
+    let i = at c in
+    let r = entry c .pre in
+    let w = c .before .before .before .loop .inv in
+    let l : i < length (s .mass) = omega arith in
+    let ol = w .3 ∙ leftwards-cell s i l in
+    let or = right-now c in
+    let nl = next-left c in (
+      omega (arith, shares-fit s i (r .each i) l),
+      mass-small s i (r .each i) l,
+      omega (arith, w .2, rightwards-small s r i (omega arith)),
+      omega (arith, leftwards-small s (i + 1) (r .each (i + 1)) (omega arith)),
+      ol,
+      or,
+      w .2,
+      nl,
+    )
+
+leaving-requires : tie.Need-leaving-requires Inv-loop μ-loop
+leaving-requires c κs =
+    let s = c .before .before .before in
+    (ready-same _ _ _ _ _ _ _ refl 0 refl (s .pre .each 0), omega arith)
+
+loop-holds : tie.Need-loop-holds Inv-loop μ-loop
+unfolding rightwards
+loop-holds c =
+    let s = c .before .before .before .before in
+    let a = s .args in
+    let e = c .leaving .ensures in (
+      omega arith,
+      written-none _ _ _,
+      refl,
+      e .0 ∙ leftwards-same _ _ _ _ 0 (a .left-in) _ refl 0 refl,
+      λ l. e .1 l ∙ right-share-same _ _ _ _ 0 (a .left-in) (a .right-in) refl 0 refl,
+    )
+
+add-leaving : tie.Need-add-leaving Inv-loop μ-loop
+add-leaving c = search needs
+
+leaving-requires-2 : tie.Need-leaving-requires-2 Inv-loop μ-loop
+leaving-requires-2 c κs =
+    let w = c .before .before .loop .inv in
+    let i = c .before .before .loop .i in
+    let s = c .before .before .before .before .before .before .before in
+    (ready-same _ _ _ _ _ _ _ (w .1 .long) (i + 1) (w .1 .same (i + 1) (omega arith)) (s .pre .each (i + 1)), omega (arith, w .1 .long))
+
+mul-moved : tie.Need-mul-moved Inv-loop μ-loop
+mul-moved c = search needs
+
+slice-read-moved : tie.Need-slice-read-moved Inv-loop μ-loop
+slice-read-moved c = search needs
+
+moved-requires : tie.Need-moved-requires Inv-loop μ-loop
+moved-requires c κs =
+    let f = facts (c .before) in
+    let h = c .before .before .before .before .loop .inv .1 .same (c .before .before .before .before .loop .i) (omega arith) in
+    (omega arith, (omega arith, (omega arith, omega arith)))
+
+mul-m : tie.Need-mul-m Inv-loop μ-loop
+mul-m c = search needs
+
+slice-write-m : tie.Need-slice-write-m Inv-loop μ-loop
+slice-write-m c = search needs
+
+add-i : tie.Need-add-i Inv-loop μ-loop
+add-i c = search needs
+
+loop-less : tie.Need-loop-less Inv-loop μ-loop
+loop-less c = omega arith
+
+loop-again : tie.Need-loop-again Inv-loop μ-loop
+loop-again c =
+    let b = c .before .before in
+    let f = facts b in
+    let w = b .before .before .before .loop .inv in
+    let i = b .before .before .before .loop .i in
+    let s = col (entry b) in
+    let h = w .1 .same i (omega arith) in (
+      omega arith,
+      written-more 0 (movedCell s) (s .mass) i _ _ (w .1) (omega arith) (omega (arith, c .moved .ensures, moved-is s i)),
+      right-now b ∙ sym (rightwards-next s i),
+      next-left b,
+      λ l. next-right b l,
+    )
+
+same-length : tie.Need-same-length Inv-loop μ-loop
+same-length c = c .before .loop .inv .1 .long
+
+returns : tie.Need-returns Inv-loop μ-loop
+unfolding movedMass
+returns c =
+    let w = c .before .loop .inv in
+    let s = col (c .before .before .before .before .before .before) in
+    written-all 0 (movedCell s) (s .mass) (c .before .loop .i) (c .before .loop .m) (w .1) (omega arith)
+
+pub move-mass-spec : {M : Type 1} → statement M
+move-mass-spec =
+    tie.close
+    (tie.spec
+    Inv-loop
+    μ-loop
+    leaving-requires
+    loop-holds
+    add-leaving
+    leaving-requires-2
+    mul-moved
+    slice-read-moved
+    moved-requires
+    mul-m
+    slice-write-m
+    add-i
+    loop-less
+    loop-again
+    same-length
+    returns)

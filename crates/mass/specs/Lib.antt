@@ -1,0 +1,2 @@
+pub mod Transport
+pub mod Ranges

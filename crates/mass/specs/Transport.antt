@@ -1,0 +1,52 @@
+-- Document 01, 'Settling', the transport step of report 4529: the mass (the paper's 'nutrient') that moves with the water carried since
+-- the last one.
+use mathlib.Core.Bool.{cond}
+use mathlib.Core.List.{List}
+use Prim.Native.Nat.{ℕ, zero, suc, _+_}
+use lib.Dec.{ltb}
+use lib.IntN.{ℤ, pos, negℤ}
+use lib.ListN.{length, getD}
+use Rattle.numbers.specs.Index.{tabulate}
+use Rattle.numbers.specs.Shares.{share, rest}
+use Rattle.numbers.specs.Signed.{positive}
+
+-- mass and base depth of each cell, carried water of each interface, and the mass that enters over the left and the right boundary
+pub record Columns : Type 0 where
+  pub mass : List ℕ
+  pub base : List ℕ
+  pub carried : List ℤ
+  pub leftIn : ℕ
+  pub rightIn : ℕ
+
+abbrev pub columns : List ℕ → List ℕ → List ℤ → ℕ → ℕ → Columns
+columns m b c leftIn rightIn = record { mass = m; base = b; carried = c; leftIn = leftIn; rightIn = rightIn }
+
+-- R = max(c(i+1), 0) and L = max(−c(i), 0): the water that left cell i over its right and over its left
+abbrev pub outRight : Columns → ℕ → ℕ
+outRight s i = positive (getD (s .carried) (i + 1) (pos 0))
+
+abbrev pub outLeft : Columns → ℕ → ℕ
+outLeft s i = positive (negℤ (getD (s .carried) i (pos 0)))
+
+-- right share = floor(m·R/b); left share = floor(m·(R+L)/b) − right share; 0 if b = 0
+unfoldable pub rightShare : Columns → ℕ → ℕ
+rightShare s i = share (getD (s .mass) i 0) (getD (s .base) i 0) 0 (outRight s i)
+
+unfoldable pub leftShare : Columns → ℕ → ℕ
+leftShare s i = share (getD (s .mass) i 0) (getD (s .base) i 0) (outRight s i) (outLeft s i)
+
+-- the mass that crosses interface i rightwards, and leftwards
+unfoldable pub rightwards : Columns → ℕ → ℕ
+rightwards s zero = s .leftIn
+rightwards s (suc i) = rightShare s i
+
+unfoldable pub leftwards : Columns → ℕ → ℕ
+leftwards s i = cond (ltb i (length (s .mass))) (leftShare s i) (s .rightIn)
+
+-- shares move: the mass of cell i afterwards is what stays and what comes from both sides
+unfoldable pub movedCell : Columns → ℕ → ℕ
+movedCell s i =
+    rest (getD (s .mass) i 0) (getD (s .base) i 0) (outRight s i + outLeft s i) + rightwards s i + leftwards s (i + 1)
+
+unfoldable pub movedMass : Columns → List ℕ
+movedMass s = tabulate (length (s .mass)) (movedCell s)

@@ -1,0 +1,87 @@
+// Mass moved along the columns of a reach, in place (document 01, 'Settling').
+ghost use mathlib.Core.Path.{_≡_};
+ghost use Prim.Native.Nat.{ℕ, _+_, _-_, _*_, _/_, _≤_, _<_};
+ghost use lib.ListN.{length};
+ghost use Rattle.numbers.specs.Shares.{share};
+ghost use Rattle.mass.specs.Transport.{columns, rightShare, leftwards, movedMass};
+ghost use Rattle.mass.specs.Ranges.{Giving, ReadyAt, Ready, massMost};
+use numbers::signed::left_part;
+use numbers::signed::right_part;
+
+// floor(m·part/b). Most interfaces carry water one way only, and a quotient is dear: none is taken for an empty part.
+fn floor_part(m: u64, b: u64, part: u64) -> u64
+    requires { ⌜ Giving m b part ⌝ }
+    ensures { λ r. ⌜ r ≡ m * part / b ⌝ }
+{
+    if part == 0 {
+        return 0;
+    }
+    m * part / b
+}
+
+// What leaves a cell over its right and over its left
+pub struct Shares {
+    pub right: u64,
+    pub left: u64,
+}
+
+// The two shares of a cell's mass by running floors, not floored singly: what the floors cut off stays in the cell, or goes with the last
+// water.
+fn shares_of(m: u64, b: u64, right: u64, left: u64) -> Shares
+    requires { ⌜ Giving m b (right + left) ⌝ }
+    ensures { λ r. ⌜ (r .right ≡ share m b 0 right) × (r .left ≡ share m b right left) ⌝ }
+{
+    let first = floor_part(m, b, right);
+    if left == 0 {
+        return Shares {
+            right: first,
+            left: 0,
+        };
+    }
+    Shares {
+        right: first,
+        left: floor_part(m, b, right + left) - first,
+    }
+}
+
+// The two shares of cell i; past the last cell, what enters over the right boundary goes left
+pub fn leaving(m: &[u64], b: &[u64], c: &[i64], right_in: u64, i: usize) -> Shares
+    requires { ⌜ ReadyAt (columns (now m) (now b) (now c) 0 «right_in») i ⌝ }
+    requires { ⌜ i ≤ length (now m) ⌝ }
+    ensures { λ r. ⌜ r .left ≡ leftwards (columns (now (m .entry)) (now (b .entry)) (now (c .entry)) 0 «right_in») i ⌝ }
+    ensures { λ r. ⌜ (i < length (now (m .entry)) → r .right ≡ rightShare (columns (now (m .entry)) (now (b .entry)) (now (c .entry)) 0 «right_in») i) ⌝ }
+{
+    if i < m.len() {
+        return shares_of(m[i], b[i], right_part(c[i + 1]), left_part(c[i]));
+    }
+    Shares {
+        right: 0,
+        left: right_in,
+    }
+}
+
+// What a cell holds after its shares have left and those of its neighbours have come
+fn moved(held: u64, right: u64, left: u64, from_left: u64, from_right: u64) -> u64
+    requires { ⌜ (right + left ≤ held) × ((held ≤ massMost) × ((«from_left» ≤ massMost) × («from_right» ≤ massMost))) ⌝ }
+    ensures { λ r. ⌜ r ≡ held - (right + left) + «from_left» + «from_right» ⌝ }
+{
+    held - (right + left) + from_left + from_right
+}
+
+// Every cell from the left: its own shares and those of the next cell are found before it is written, each once.
+pub fn move_mass(m: &mut [u64], b: &[u64], c: &[i64], left_in: u64, right_in: u64)
+    requires { ⌜ Ready (columns (now m) (now b) (now c) «left_in» «right_in») ⌝ }
+    ensures { λ _. ⌜ now (m .exit) ≡ movedMass (columns (now (m .entry)) (now (b .entry)) (now (c .entry)) «left_in» «right_in») ⌝ }
+{
+    let n = m.len();
+    let mut from_left = left_in;
+    let mut out = leaving(m, b, c, right_in, 0);
+    let mut i = 0;
+    while i < n {
+        let next = leaving(m, b, c, right_in, i + 1);
+        m[i] = moved(m[i], out.right, out.left, from_left, next.left);
+        from_left = out.right;
+        out = next;
+        i += 1;
+    }
+}
