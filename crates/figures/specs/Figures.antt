@@ -1,7 +1,9 @@
 -- Document 01, 'Figures to meet': the starred figures, in one table. Depths in micrometres, X in mm, t in ms.
 use mathlib.Core.Path.{_≡_}
-use Prim.Native.Nat.{ℕ}
+use mathlib.Core.List.{[], _∷_}
+use Prim.Native.Nat.{ℕ, _+_}
 use lib.IntN.{pos}
+use Rattle.numbers.specs.Shares.{shares, rest}
 use Rattle.flux.specs.Wave.{waveSpeed}
 use Rattle.flux.specs.Crossing.{waterFlux, momentumFlux}
 
@@ -16,3 +18,6 @@ pub record Figures : Type 0 where
   pub W-1-000-000 : waterFlux 100 1_000 1_000_000 (pos 0) ≡ 95_875
   pub Q-1-000-000 : momentumFlux 100 1_000 1_000_000 (pos 0) ≡ 245_120_400
   pub W-100-000 : waterFlux 100 1_000 100_000 (pos 0) ≡ 3_030
+  -- b 2, m 1, R = L = 1: shares 0 and 1, none stays
+  pub shares-of-1 : shares 1 2 0 (1 ∷ 1 ∷ []) ≡ 0 ∷ 1 ∷ []
+  pub none-stays : rest 1 2 (1 + 1) ≡ 0

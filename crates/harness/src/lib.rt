@@ -19,6 +19,10 @@ use flux::wave::wave_speed;
 use numbers::signed::joined;
 use numbers::signed::left_part;
 use numbers::signed::right_part;
+use reach::boundary::Boundary;
+use reach::ledger::Ledger;
+use stepping::Greatest;
+use transport::Answer;
 
 #[no_mangle]
 pub extern "C" fn harness_wave_speed(h: u64) -> u64
@@ -108,4 +112,60 @@ pub extern "C" fn harness_net(
         water: joined(e.rightward, e.leftward),
         momentum: e.momentum,
     }
+}
+
+// Both boundaries, as C passes them
+#[repr(C)]
+pub struct Pair {
+    pub ends: [Boundary; 2],
+}
+
+#[no_mangle]
+pub extern "C" fn harness_transport(
+    z: &[i64],
+    h: &[u64],
+    q: &[i64],
+    m: &mut [u64],
+    b: &mut [u64],
+    c: &mut [i64],
+    x: u64,
+    held: Pair,
+    ledger: Ledger,
+) -> Answer {
+    let ends = held.ends;
+    transport::transport(z, h, q, m, b, c, x, ends, ledger)
+}
+
+#[no_mangle]
+pub extern "C" fn harness_set_boundaries(
+    z: &[i64],
+    h: &[u64],
+    q: &[i64],
+    m: &mut [u64],
+    b: &mut [u64],
+    c: &mut [i64],
+    x: u64,
+    held: Pair,
+    ledger: Ledger,
+    new: Pair,
+) -> Answer {
+    let ends = held.ends;
+    let given = new.ends;
+    transport::set_boundaries(z, h, q, m, b, c, x, ends, ledger, given)
+}
+
+#[no_mangle]
+pub extern "C" fn harness_greatest_step(
+    z: &[i64],
+    h: &[u64],
+    q: &[i64],
+    m: &[u64],
+    b: &[u64],
+    c: &[i64],
+    x: u64,
+    held: Pair,
+    ledger: Ledger,
+) -> Greatest {
+    let ends = held.ends;
+    stepping::greatest_step(z, h, q, m, b, c, x, ends, ledger)
 }

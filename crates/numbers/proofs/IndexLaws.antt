@@ -133,3 +133,9 @@ off t ts e = rw e refl
 pub only : (t : Bool) → allOf (t ∷ []) ≡ t
 unfolding allOf
 only t = and-true t
+
+-- a test that holds at each index below n
+pub all-below : (f : ℕ → Bool) (n : ℕ) → ((i : ℕ) → i < n → f i ≡ true) → allBelow n f ≡ true
+unfolding allBelow
+all-below f zero h = refl
+all-below f (suc n) h = and-both (allBelow n f) (f n) (all-below f n (λ i l. h i (omega arith))) (h n (omega arith))

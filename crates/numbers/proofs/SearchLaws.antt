@@ -3,9 +3,9 @@ use mathlib.Core.Path.{_≡_, subst}
 use mathlib.Core.Bool.{Bool, true, false, not}
 use mathlib.Core.Logic.{⊎-elim}
 use Prim.Native.Nat.{ℕ, zero, suc, _+_, _≤_, _<_}
-use native.Mathlib.Nat.{eq-or-lt-of-le}
+use native.Mathlib.Nat.{eq-or-lt-of-le, le-of-suc-le-suc, lt-of-not-le}
 use native.Mathlib.Omega.{arith}
-use lib.Dec.{T}
+use lib.Dec.{T, T-not, ltb, ltb→lt, nltb→le}
 use Rattle.numbers.specs.Search.{climb}
 
 -- by the two outcomes of a test
@@ -39,3 +39,37 @@ climb-past canRaise (suc k) a b l h =
     (λ t g. ⊎-elim (λ e. subst (λ (n : ℕ). T (canRaise n)) e t) (λ q. climb-past canRaise k (suc a) b q g) (eq-or-lt-of-le l))
     (λ t g. absurd (omega arith))
     h
+
+-- what holds at the start, and of each number that it is raised to, holds where it stops
+pub climb-holds : (P : ℕ → Bool) (turns a : ℕ) → T (P a) → T (P (climb (λ b. P (suc b)) turns a))
+unfolding climb
+climb-holds P zero a h = h
+climb-holds P (suc k) a h =
+    by-test (P (suc a))
+    (λ b. let r : ℕ = elim b [ true ↦ climb (λ n. P (suc n)) k (suc a) | false ↦ a ] in T (P r))
+    (λ t. climb-holds P k (suc a) t)
+    (λ t. h)
+
+-- it comes no further than its turns
+pub climb-most : (canRaise : ℕ → Bool) (turns a : ℕ) → climb canRaise turns a ≤ a + turns
+unfolding climb
+climb-most canRaise zero a = omega arith
+climb-most canRaise (suc k) a =
+    by-test (canRaise a)
+    (λ b. (let r : ℕ = elim b [ true ↦ climb canRaise k (suc a) | false ↦ a ] in r) ≤ a + suc k)
+    (λ t. omega (arith, climb-most canRaise k (suc a)))
+    (λ t. omega arith)
+
+-- and as far as everything before can be raised
+pub climb-reaches : (canRaise : ℕ → Bool) (turns a b : ℕ) → b ≤ a + turns → ((n : ℕ) → n < b → T (canRaise n)) → b ≤ climb canRaise turns a
+unfolding climb
+climb-reaches canRaise zero a b l f = omega arith
+climb-reaches canRaise (suc k) a b l f =
+    by-test (canRaise a)
+    (λ c. b ≤ (let r : ℕ = elim c [ true ↦ climb canRaise k (suc a) | false ↦ a ] in r))
+    (λ t. climb-reaches canRaise k (suc a) b (omega arith) f)
+    (λ t. le-of-suc-le-suc (lt-of-not-le (λ l. T-not (canRaise a) t (f a l))))
+
+-- by the two outcomes of a test of order
+pub by-less : (a b : ℕ) (P : Bool → Type 0) → (a < b → P true) → (b ≤ a → P false) → P (ltb a b)
+by-less a b P f g = by-test (ltb a b) P (λ t. f (ltb→lt a b t)) (λ t. g (nltb→le a b t))

@@ -2,13 +2,14 @@
 use mathlib.Core.Path.{refl}
 use Rattle.numbers.specs.Search.{climb}
 use Rattle.numbers.specs.Root.{squareRoot}
+use Rattle.numbers.specs.Shares.{share, shares, rest}
 use Rattle.flux.specs.Wave.{waveSpeed}
 use Rattle.flux.specs.Crossing.{upper, lower, waterOf, waterFlux, secondMoment, momentumOf, momentumFlux}
 use Rattle.figures.proofs.figures_met.Statement.{statement}
 use Rattle.figures.proofs.figures_met.Tie as tie
 
 returns : tie.Need-returns
-unfolding waveSpeed squareRoot climb waterFlux waterOf momentumFlux momentumOf secondMoment upper lower
+unfolding waveSpeed squareRoot climb waterFlux waterOf momentumFlux momentumOf secondMoment upper lower shares share rest
 returns c =
     record {
       a-dry = refl;
@@ -19,6 +20,8 @@ returns c =
       W-1-000-000 = refl;
       Q-1-000-000 = refl;
       W-100-000 = refl;
+      shares-of-1 = refl;
+      none-stays = refl;
     }
 
 pub figures-met-spec : {M : Type 1} → statement M

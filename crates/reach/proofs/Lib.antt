@@ -1,0 +1,3 @@
+pub mod GroundsLaws
+pub mod CarriedLaws
+pub mod Sound

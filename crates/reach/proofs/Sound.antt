@@ -1,0 +1,262 @@
+-- What a record is that stands grounds 4 to 9: `sound` and `given-fits`, and back, `stands`. Assumes nothing.
+use mathlib.Core.Path.{_≡_, refl, sym, ap, _∙_}
+use mathlib.Core.List.{List}
+use mathlib.Core.Bool.{Bool, true, false, cond}
+use Prim.Native.Nat.{ℕ, zero, suc, _+_, _*_, _≤_, _<_}
+use native.Mathlib.Omega.{arith}
+use lib.IntN.{ℤ, pos, negsuc, negℤ, natAbs}
+use lib.ListN.{length, getD}
+use lib.Dec.{eqb}
+use borrow.Author.Tests.{leb-true, eqb-true, le-leb, eq-eqb}
+use Rattle.numbers.specs.Signed.{positive}
+use Rattle.numbers.proofs.IndexLaws.{all-of, all-at, all-below, on, only}
+use Rattle.numbers.proofs.SignedLaws.{R, L, abs-parts}
+use Rattle.flux.specs.Limits.{depthMost, velocityMost, bedMost, cellLengthLeast, cellLengthMost}
+use Rattle.reach.specs.Limits.{cellsMost, concentrationMost, totalMost, wall, openEnd, fed}
+use Rattle.reach.specs.Reach.{Reach, cells, bedAt, depthAt, dischargeAt, massAt, baseAt, carriedAt, leftEnd, rightEnd}
+use Rattle.reach.specs.Grounds.{firstRefusal, recordGrounds, passOr, lengthsFit, cellLengthFits, wallFits, openFits, fedFits, kindFits, boundaryFits, boundariesFit, cellFits, cellsFit, carriedFits, shutFits, carriedCellsFit, carriedFit, totalsFit, ledgerFits}
+use Rattle.reach.specs.declared.boundary.Boundary.{Boundary}
+use Rattle.reach.specs.declared.ledger.Totals.{Totals}
+use Rattle.reach.specs.declared.ledger.Ledger.{Ledger}
+use Rattle.reach.specs.declared.refusal.Check.the-variants.{Pass}
+use Rattle.reach.proofs.GroundsLaws.{stood, go-on, last-one}
+use Rattle.reach.proofs.CarriedLaws.{carried-is}
+
+-- ---- 4
+
+pub record LengthsSound (z h q m b c : ℕ) : Type 0 where
+  pub some : 1 ≤ z
+  pub few : z ≤ cellsMost
+  pub depths : h ≡ z
+  pub discharges : q ≡ z
+  pub masses : m ≡ z
+  pub bases : b ≡ z
+  pub interfaces : c ≡ z + 1
+
+module _ (z h q m b c : ℕ) where
+  pub lengths-sound : lengthsFit z h q m b c ≡ true → LengthsSound z h q m b c
+  unfolding lengthsFit
+  lengths-sound e =
+      let t = all-of _ e in
+      record {
+        some = leb-true _ _ (t 0);
+        few = leb-true _ _ (t 1);
+        depths = eqb-true _ _ (t 2);
+        discharges = eqb-true _ _ (t 3);
+        masses = eqb-true _ _ (t 4);
+        bases = eqb-true _ _ (t 5);
+        interfaces = eqb-true _ _ (t 6);
+      }
+
+  lengths-stand : LengthsSound z h q m b c → lengthsFit z h q m b c ≡ true
+  unfolding lengthsFit
+  lengths-stand s =
+      on _ _ (le-leb _ _ (s .some)) (on _ _ (le-leb _ _ (s .few)) (on _ _ (eq-eqb _ _ (s .depths)) (on _ _ (eq-eqb _ _ (s .discharges))
+      (on _ _ (eq-eqb _ _ (s .masses)) (on _ _ (eq-eqb _ _ (s .bases)) (only _ ∙ eq-eqb _ _ (s .interfaces)))))))
+
+-- ---- 6
+
+pub record BoundarySound (e : Boundary) : Type 0 where
+  pub concentration : e .concentration ≤ concentrationMost
+  pub depth : e .depth ≤ depthMost
+  pub discharge : natAbs (e .discharge) ≤ velocityMost * e .depth
+
+by-kind : (a b c w o f : Bool) {P : Type 0} → cond a w (cond b o (cond c f false)) ≡ true → (w ≡ true → P) → (o ≡ true → P) → (f ≡ true → P) → P
+by-kind true b c w o f e p q r = p e
+by-kind false true c w o f e p q r = q e
+by-kind false false true w o f e p q r = r e
+by-kind false false false w o f e p q r = let z : _≡_ {A = ℕ} 0 1 = cc in absurd (omega arith)
+
+pub boundary-sound : (e : Boundary) → boundaryFits e ≡ true → BoundarySound e
+unfolding boundaryFits kindFits wallFits openFits fedFits
+boundary-sound e p =
+    by-kind (eqb (e .kind) wall) (eqb (e .kind) openEnd) (eqb (e .kind) fed) _ _ _ (all-of _ p 1)
+    (λ w. let t = all-of _ w in
+    record {
+      concentration = omega (arith, eqb-true (e .concentration) 0 (t 2));
+      depth = omega (arith, eqb-true (e .depth) 0 (t 0));
+      discharge = omega (arith, eqb-true (natAbs (e .discharge)) 0 (t 1));
+    })
+    (λ o. let t = all-of _ o in
+    record {
+      concentration = leb-true _ _ (t 2);
+      depth = omega (arith, eqb-true (e .depth) 0 (t 0));
+      discharge = omega (arith, eqb-true (natAbs (e .discharge)) 0 (t 1));
+    })
+    (λ f. let t = all-of _ f in
+    record {
+      concentration = leb-true _ _ (t 3);
+      depth = leb-true _ _ (t 1);
+      discharge = leb-true _ _ (t 2);
+    })
+
+-- ---- 7
+
+pub record CellSound (z : ℤ) (h : ℕ) (q : ℤ) (m b : ℕ) : Type 0 where
+  pub bed : natAbs z ≤ bedMost
+  pub depth : h ≤ depthMost
+  pub discharge : natAbs q ≤ velocityMost * h
+  pub base : b ≤ depthMost
+  pub mass : m ≤ concentrationMost * b
+
+module _ (z : ℤ) (h : ℕ) (q : ℤ) (m b : ℕ) where
+  cell-sound : cellFits z h q m b ≡ true → CellSound z h q m b
+  unfolding cellFits
+  cell-sound e =
+      let t = all-of _ e in
+      record {
+        bed = leb-true _ _ (t 0);
+        depth = leb-true _ _ (t 1);
+        discharge = leb-true _ _ (t 2);
+        base = leb-true _ _ (t 3);
+        mass = leb-true _ _ (t 4);
+      }
+
+  cell-stands : CellSound z h q m b → cellFits z h q m b ≡ true
+  unfolding cellFits
+  cell-stands s =
+      on _ _ (le-leb _ _ (s .bed)) (on _ _ (le-leb _ _ (s .depth)) (on _ _ (le-leb _ _ (s .discharge))
+      (on _ _ (le-leb _ _ (s .base)) (only _ ∙ le-leb _ _ (s .mass)))))
+
+pub cells-sound : (z : List ℤ) (h : List ℕ) (q : List ℤ) (m b : List ℕ) → cellsFit z h q m b ≡ true → (i : ℕ) → i < length z → CellSound (getD z i (pos 0)) (getD h i 0) (getD q i (pos 0)) (getD m i 0) (getD b i 0)
+unfolding cellsFit
+cells-sound z h q m b e i l = cell-sound _ _ _ _ _ (all-at _ (length z) i e l)
+
+-- ---- 8
+
+pub record CarriedSound (h b : ℕ) (l r : ℤ) : Type 0 where
+  pub left : natAbs l ≤ depthMost
+  pub right : natAbs r ≤ depthMost
+  pub balance : h + positive r + positive (negℤ l) ≡ b + positive l + positive (negℤ r)
+  pub covered : positive r + positive (negℤ l) ≤ b
+
+module _ (h b : ℕ) (l r : ℤ) where
+  carried-sound : carriedFits h b l r ≡ true → CarriedSound h b l r
+  carried-sound e =
+      let t = all-of _ (sym (carried-is h b l r refl refl refl refl) ∙ e) in
+      record {
+        left = omega (arith, abs-parts l, leb-true (R l + L l) depthMost (t 0));
+        right = omega (arith, abs-parts r, leb-true (L r + R r) depthMost (t 1));
+        balance = omega (arith, eqb-true (h + L l + R r) (b + R l + L r) (t 2));
+        covered = leb-true _ _ (t 3);
+      }
+
+  carried-stands : CarriedSound h b l r → carriedFits h b l r ≡ true
+  carried-stands s =
+      carried-is h b l r refl refl refl refl
+      ∙ on _ _ (le-leb (R l + L l) depthMost (omega (arith, abs-parts l))) (on _ _ (le-leb (L r + R r) depthMost (omega (arith, abs-parts r)))
+      (on _ _ (eq-eqb (h + L l + R r) (b + R l + L r) (omega arith)) (only _ ∙ le-leb _ _ (s .covered))))
+
+no-size : (z : ℤ) → natAbs z ≡ 0 → z ≡ pos 0
+no-size (pos n) e = ap pos e
+no-size (negsuc n) e = absurd (omega arith)
+
+module _ (kind : ℕ) (c : ℤ) where
+  shut-sound : shutFits kind c ≡ true → kind ≡ wall → c ≡ pos 0
+  unfolding shutFits
+  shut-sound e p = no-size c (eqb-true _ _ (rw (eq-eqb _ _ p) at e))
+
+  shut-stands : (kind ≡ wall → c ≡ pos 0) → shutFits kind c ≡ true
+  unfolding shutFits
+  shut-stands f = go (eqb kind wall) refl
+    where
+      go : (t : Bool) → eqb kind wall ≡ t → cond t (eqb (natAbs c) 0) true ≡ true
+      go true p = eq-eqb (natAbs c) 0 (ap natAbs (f (eqb-true kind wall p)))
+      go false p = refl
+
+-- ---- 9
+
+pub record TotalsSound (t : Totals) : Type 0 where
+  pub waterIn : t .«water_in» ≤ totalMost
+  pub waterOut : t .«water_out» ≤ totalMost
+  pub massIn : t .«mass_in» ≤ totalMost
+  pub massOut : t .«mass_out» ≤ totalMost
+
+pub totals-sound : (t : Totals) → totalsFit t ≡ true → TotalsSound t
+unfolding totalsFit
+totals-sound t e =
+    let t = all-of _ e in
+    record { waterIn = leb-true _ _ (t 0); waterOut = leb-true _ _ (t 1); massIn = leb-true _ _ (t 2); massOut = leb-true _ _ (t 3) }
+
+pub ledger-left : (k : Ledger) → ledgerFits k ≡ true → totalsFit (k .left) ≡ true
+unfolding ledgerFits
+ledger-left k e = all-of _ e 0
+
+pub ledger-right : (k : Ledger) → ledgerFits k ≡ true → totalsFit (k .right) ≡ true
+unfolding ledgerFits
+ledger-right k e = all-of _ e 1
+
+-- ---- 4 to 9
+
+pub record Sound (s : Reach) : Type 0 where
+  pub some : 1 ≤ cells s
+  pub few : cells s ≤ cellsMost
+  pub depths : length (s .depth) ≡ cells s
+  pub discharges : length (s .discharge) ≡ cells s
+  pub masses : length (s .mass) ≡ cells s
+  pub bases : length (s .base) ≡ cells s
+  pub interfaces : length (s .carried) ≡ cells s + 1
+  pub lengthLeast : cellLengthLeast ≤ s .cellLength
+  pub lengthMost : s .cellLength ≤ cellLengthMost
+  pub left : BoundarySound (leftEnd (s .ends))
+  pub right : BoundarySound (rightEnd (s .ends))
+  pub boundaries : boundariesFit (s .ends) ≡ true
+  pub cell : (i : ℕ) → i < cells s → CellSound (bedAt s i) (depthAt s i) (dischargeAt s i) (massAt s i) (baseAt s i)
+  pub water : (i : ℕ) → i < cells s → CarriedSound (depthAt s i) (baseAt s i) (carriedAt s i) (carriedAt s (i + 1))
+  pub shutLeft : leftEnd (s .ends) .kind ≡ wall → carriedAt s 0 ≡ pos 0
+  pub shutRight : rightEnd (s .ends) .kind ≡ wall → carriedAt s (cells s) ≡ pos 0
+  pub ledger : ledgerFits (s .ledger) ≡ true
+
+module _ (s : Reach) (es : List Boundary) where
+  pub sound : firstRefusal (recordGrounds s es) ≡ Pass → Sound s
+  unfolding cellLengthFits boundariesFit carriedFit carriedCellsFit
+  sound e =
+      let t = stood (recordGrounds s es) e in
+      let n = lengths-sound _ _ _ _ _ _ (t 0) in
+      let x = all-of _ (t 1) in
+      let ends = all-of _ (t 2) in
+      let water = all-of _ (t 5) in
+      record {
+        some = n .some;
+        few = n .few;
+        depths = n .depths;
+        discharges = n .discharges;
+        masses = n .masses;
+        bases = n .bases;
+        interfaces = n .interfaces;
+        lengthLeast = leb-true _ _ (x 0);
+        lengthMost = leb-true _ _ (x 1);
+        left = boundary-sound _ (ends 0);
+        right = boundary-sound _ (ends 1);
+        boundaries = t 2;
+        cell = cells-sound _ _ _ _ _ (t 4);
+        water = λ i l. carried-sound _ _ _ _ (all-at _ (length (s .depth)) i (water 0) (omega arith));
+        shutLeft = shut-sound _ _ (water 1);
+        shutRight = rw (n .depths) at (shut-sound (rightEnd (s .ends) .kind) (carriedAt s (length (s .depth))) (water 2));
+        ledger = t 6;
+      }
+
+  pub given-fits : firstRefusal (recordGrounds s es) ≡ Pass → boundariesFit es ≡ true
+  given-fits e = stood (recordGrounds s es) e 3
+
+  pub stands : Sound s → boundariesFit es ≡ true → firstRefusal (recordGrounds s es) ≡ Pass
+  unfolding cellLengthFits cellsFit carriedFit carriedCellsFit
+  stands k g =
+      let lengths : LengthsSound (cells s) (length (s .depth)) (length (s .discharge)) (length (s .mass)) (length (s .base)) (length (s .carried)) = record {
+        some = k .some;
+        few = k .few;
+        depths = k .depths;
+        discharges = k .discharges;
+        masses = k .masses;
+        bases = k .bases;
+        interfaces = k .interfaces;
+      } in
+      let last = rw (← k .depths) at (k .shutRight) in
+      go-on _ _ (lengths-stand _ _ _ _ _ _ lengths)
+      (go-on _ _ (on _ _ (le-leb _ _ (k .lengthLeast)) (only _ ∙ le-leb _ _ (k .lengthMost)))
+      (go-on _ _ (k .boundaries)
+      (go-on _ _ g
+      (go-on _ _ (all-below _ (cells s) (λ i l. cell-stands _ _ _ _ _ (k .cell i l)))
+      (go-on _ _ (on _ _ (all-below _ (length (s .depth)) (λ i l. carried-stands _ _ _ _ (k .water i (omega arith))))
+      (on _ _ (shut-stands _ _ (k .shutLeft)) (only _ ∙ shut-stands _ _ last)))
+      (last-one 9 _ ∙ ap (passOr 9) (k .ledger)))))))

@@ -1,0 +1,120 @@
+-- `reach::carried::check_carried_cells` meets its contract. The loop: the cells passed keep the rules. Assumes nothing.
+use mathlib.Core.Path.{_≡_, sym, _∙_}
+use mathlib.Core.Bool.{Bool, true}
+use mathlib.Core.List.{List}
+use Prim.Native.Nat.{ℕ, _+_, _-_, _≤_, _<_}
+use native.Mathlib.Omega.{arith}
+use lib.IntN.{ℤ, pos}
+use lib.ListN.{length, getD}
+use denote.Ref.{now}
+use mir.Syntax.{w64}
+use mir.Facts.{toZ-ofZ}
+use borrow.Author.Needs.{needs, sfits-of}
+use borrow.Author.Tests.{not-true, not-false}
+use Rattle.numbers.specs.Index.{allBelow}
+use Rattle.numbers.proofs.IndexLaws.{all-none, all-more, all-fails}
+use Rattle.reach.specs.Grounds.{carriedFits, carriedCellsFit}
+use Rattle.reach.proofs.GroundsLaws.{passes, refuses}
+use Rattle.reach.proofs.carried.check_carried_cells.Statement.{statement}
+use Rattle.reach.proofs.carried.check_carried_cells.Tie as tie
+
+abbrev carriedAt : List ℕ → List ℕ → List ℤ → ℕ → Bool
+carriedAt h b c i = carriedFits (getD h i 0) (getD b i 0) (getD c i (pos 0)) (getD c (i + 1) (pos 0))
+
+abbrev Inv-loop : tie.InvT-loop
+Inv-loop h b c n i₀ i = (i ≤ n) × (allBelow i (carriedAt h b c) ≡ true)
+
+abbrev μ-loop : tie.MeasureT-loop
+μ-loop h b c n i₀ i = n - i
+
+cell-is : (c : tie.After-carried-fits Inv-loop μ-loop) → (let s = c .before .before .before .before .before .before .before .before .before .args in
+    c .carried-fits .result ≡ carriedAt (now (s .h)) (now (s .b)) (now (s .c)) (c .before .before .before .before .before .before .loop .i))
+cell-is c =
+    let s = c .before .before .before .before .before .before .before .before .before .args in
+    let i = c .before .before .before .before .before .before .loop .i in
+    let left = toZ-ofZ {w = w64} {z = getD (now (s .c)) i (pos 0)} (sfits-of (c .before .before .carried-fits-arg .given)) in
+    let right = toZ-ofZ {w = w64} {z = getD (now (s .c)) (i + 1) (pos 0)} (sfits-of (c .before .carried-fits-arg2 .given)) in
+    rw (left, right) at (c .carried-fits .ensures)
+
+loop-holds : tie.Need-loop-holds Inv-loop μ-loop
+loop-holds c = (search needs, all-none _)
+
+mul-carried-fits : tie.Need-mul-carried-fits Inv-loop μ-loop
+mul-carried-fits c = search needs
+
+shared-slice-read-carried-fits : tie.Need-shared-slice-read-carried-fits Inv-loop μ-loop
+shared-slice-read-carried-fits c = search needs
+
+mul-carried-fits-2 : tie.Need-mul-carried-fits-2 Inv-loop μ-loop
+mul-carried-fits-2 c = search needs
+
+shared-slice-read-carried-fits-2 : tie.Need-shared-slice-read-carried-fits-2 Inv-loop μ-loop
+shared-slice-read-carried-fits-2 c = search needs
+
+mul-carried-fits-3 : tie.Need-mul-carried-fits-3 Inv-loop μ-loop
+mul-carried-fits-3 c = search needs
+
+shared-slice-copy-out-carried-fits : tie.Need-shared-slice-copy-out-carried-fits Inv-loop μ-loop
+shared-slice-copy-out-carried-fits c = search needs
+
+add-carried-fits : tie.Need-add-carried-fits Inv-loop μ-loop
+add-carried-fits c = search needs
+
+mul-carried-fits-4 : tie.Need-mul-carried-fits-4 Inv-loop μ-loop
+mul-carried-fits-4 c = search needs
+
+shared-slice-copy-out-carried-fits-2 :
+    tie.Need-shared-slice-copy-out-carried-fits-2 Inv-loop μ-loop
+shared-slice-copy-out-carried-fits-2 c = search needs
+
+carried-fits-requires : tie.Need-carried-fits-requires Inv-loop μ-loop
+carried-fits-requires c κs =
+    let s = c .before .before .before .before .before .before .before .before .pre in
+    let i = c .before .before .before .before .before .loop .i in
+    let l : i < length (now (c .before .before .before .before .before .before .before .before .args .h)) = omega arith in
+    (s .deep i l, s .base i l)
+
+returns : tie.Need-returns Inv-loop μ-loop
+unfolding carriedCellsFit
+returns c =
+    refuses 8 (all-fails _ _ (c .before .before .before .before .before .before .before .loop .i) (search needs) (sym (cell-is (c .before)) ∙ not-true _ (c .if1 .taken)))
+
+add-i : tie.Need-add-i Inv-loop μ-loop
+add-i c = search needs
+
+loop-less : tie.Need-loop-less Inv-loop μ-loop
+loop-less c = search needs
+
+loop-again : tie.Need-loop-again Inv-loop μ-loop
+loop-again c =
+    let l = c .before .before .before .before .before .before .before .loop in
+    (search needs, all-more _ (l .i) (l .inv .1) (sym (cell-is (c .before)) ∙ not-false _ (c .if1 .left)))
+
+returns-2 : tie.Need-returns-2 Inv-loop μ-loop
+unfolding carriedCellsFit
+returns-2 c =
+    let e : c .before .loop .i ≡ length (now (c .before .before .before .before .args .h)) = omega arith in
+    passes 8 (rw e at (c .before .loop .inv .1))
+
+pub check-carried-cells-spec : {M : Type 1} → statement M
+check-carried-cells-spec =
+    tie.close
+    (tie.spec
+    Inv-loop
+    μ-loop
+    loop-holds
+    mul-carried-fits
+    shared-slice-read-carried-fits
+    mul-carried-fits-2
+    shared-slice-read-carried-fits-2
+    mul-carried-fits-3
+    shared-slice-copy-out-carried-fits
+    add-carried-fits
+    mul-carried-fits-4
+    shared-slice-copy-out-carried-fits-2
+    carried-fits-requires
+    returns
+    add-i
+    loop-less
+    loop-again
+    returns-2)

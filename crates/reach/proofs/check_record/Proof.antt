@@ -1,0 +1,180 @@
+-- `reach::check_record` meets its contract: ground by ground. Assumes nothing.
+use mathlib.Core.Path.{_≡_, refl, sym, _∙_}
+use mathlib.Core.List.{List}
+use mathlib.Core.Bool.{true}
+use Prim.Native.Nat.{ℕ}
+use native.Mathlib.Omega.{arith}
+use denote.Ref.{now}
+use lib.ListN.{getD, drop}
+use Rattle.reach.specs.Reach.{reachOf}
+use Rattle.reach.specs.Grounds.{Ground, ground, firstRefusal, recordGrounds}
+use Rattle.reach.proofs.GroundsLaws.{passed, refused-by, go-on, stop-at, last-one}
+use Rattle.reach.proofs.Sound.{lengths-sound, cells-sound}
+use borrow.Author.Needs.{needs}
+use Rattle.reach.proofs.check_record.Statement.{statement}
+use Rattle.reach.proofs.check_record.Tie as tie
+
+-- the grounds of the call
+abbrev grounds : tie.Start → List Ground
+grounds s =
+    let a = s .args in
+    recordGrounds (reachOf (now (a .z)) (now (a .h)) (now (a .q)) (now (a .m)) (now (a .b)) (now (a .c)) (a .x) (a .t8) (a .ledger)) (a .given)
+
+abbrev Stands : ℕ → tie.Start → Type 0
+Stands k s = getD (grounds s) k (ground 0 true) .stands ≡ true
+
+-- the first k stand, so the rest decide
+abbrev Rest : ℕ → tie.Start → Type 0
+Rest k s = firstRefusal (grounds s) ≡ firstRefusal (drop k (grounds s))
+
+lengths-fit : (c : tie.After-enum-told) → Stands 0 (c .before .before .before .before .before .before)
+lengths-fit c = passed 4 _ _ (c .before .before .check-lengths .ensures) (c .enum-told .given .1)
+
+after-lengths : (c : tie.After-enum-told) → Rest 1 (c .before .before .before .before .before .before)
+after-lengths c = go-on _ _ (lengths-fit c) refl
+
+after-cell-length : (c : tie.After-enum-told3) → Rest 2 (c .before .before .before .before .before .before .before .before .before)
+after-cell-length c = after-lengths (c .before .before .before) ∙ go-on _ _ (passed 5 _ _ (c .before .before .check-cell-length .ensures) (c .enum-told3 .given .1)) refl
+
+after-held : (c : tie.After-enum-told5) → Rest 3 (c .before .before .before .before .before .before .before .before .before .before .before .before)
+after-held c = after-cell-length (c .before .before .before) ∙ go-on _ _ (passed 6 _ _ (c .before .before .check-boundaries .ensures) (c .enum-told5 .given .1)) refl
+
+after-given : (c : tie.After-enum-told7) → Rest 4 (c .before .before .before .before .before .before .before .before .before .before .before .before .before .before .before)
+after-given c = after-held (c .before .before .before) ∙ go-on _ _ (passed 6 _ _ (c .before .before .check-boundaries2 .ensures) (c .enum-told7 .given .1)) refl
+
+cells-fit : (c : tie.After-enum-told9) → Stands 4 (c .before .before .before .before .before .before .before .before .before .before .before .before .before .before .before .before .before .before)
+cells-fit c = passed 7 _ _ (c .before .before .check-cells .ensures) (c .enum-told9 .given .1)
+
+after-cells : (c : tie.After-enum-told9) → Rest 5 (c .before .before .before .before .before .before .before .before .before .before .before .before .before .before .before .before .before .before)
+after-cells c = after-given (c .before .before .before) ∙ go-on _ _ (cells-fit c) refl
+
+after-carried : (c : tie.After-enum-told11) → Rest 6 (c .before .before .before .before .before .before .before .before .before .before .before .before .before .before .before .before .before .before .before .before .before)
+after-carried c = after-cells (c .before .before .before) ∙ go-on _ _ (passed 8 _ _ (c .before .before .check-carried .ensures) (c .enum-told11 .given .1)) refl
+
+check-lengths-requires : tie.Need-check-lengths-requires
+check-lengths-requires c κs = search needs
+
+enum-told : tie.Need-enum-told
+enum-told c = search needs
+
+enum-told-2 : tie.Need-enum-told-2
+enum-told-2 c = search needs
+
+returns : tie.Need-returns
+returns c = sym (stop-at _ _ (refused-by 4 _ _ _ (c .before .before .check-lengths .ensures) (c .enum-told2 .given .1)))
+
+check-cell-length-requires : tie.Need-check-cell-length-requires
+check-cell-length-requires c κs = search needs
+
+enum-told-3 : tie.Need-enum-told-3
+enum-told-3 c = search needs
+
+enum-told-4 : tie.Need-enum-told-4
+enum-told-4 c = search needs
+
+returns-2 : tie.Need-returns-2
+returns-2 c = sym (after-lengths (c .before .before .before) ∙ stop-at _ _ (refused-by 5 _ _ _ (c .before .before .check-cell-length .ensures) (c .enum-told4 .given .1)))
+
+check-boundaries-requires : tie.Need-check-boundaries-requires
+check-boundaries-requires c κs = search needs
+
+enum-told-5 : tie.Need-enum-told-5
+enum-told-5 c = search needs
+
+enum-told-6 : tie.Need-enum-told-6
+enum-told-6 c = search needs
+
+returns-3 : tie.Need-returns-3
+returns-3 c = sym (after-cell-length (c .before .before .before) ∙ stop-at _ _ (refused-by 6 _ _ _ (c .before .before .check-boundaries .ensures) (c .enum-told6 .given .1)))
+
+check-boundaries-requires-2 : tie.Need-check-boundaries-requires-2
+check-boundaries-requires-2 c κs = search needs
+
+enum-told-7 : tie.Need-enum-told-7
+enum-told-7 c = search needs
+
+enum-told-8 : tie.Need-enum-told-8
+enum-told-8 c = search needs
+
+returns-4 : tie.Need-returns-4
+returns-4 c = sym (after-held (c .before .before .before) ∙ stop-at _ _ (refused-by 6 _ _ _ (c .before .before .check-boundaries2 .ensures) (c .enum-told8 .given .1)))
+
+check-cells-requires : tie.Need-check-cells-requires
+check-cells-requires c κs =
+    let n = lengths-sound _ _ _ _ _ _ (lengths-fit (c .before .before .before .before .before .before .before .before .before)) in
+    record { depths = n .depths; discharges = n .discharges; masses = n .masses; bases = n .bases }
+
+enum-told-9 : tie.Need-enum-told-9
+enum-told-9 c = search needs
+
+enum-told-10 : tie.Need-enum-told-10
+enum-told-10 c = search needs
+
+returns-5 : tie.Need-returns-5
+returns-5 c = sym (after-given (c .before .before .before) ∙ stop-at _ _ (refused-by 7 _ _ _ (c .before .before .check-cells .ensures) (c .enum-told10 .given .1)))
+
+element-copy-out-check-carried : tie.Need-element-copy-out-check-carried
+element-copy-out-check-carried c = search needs
+
+element-copy-out-check-carried-2 : tie.Need-element-copy-out-check-carried-2
+element-copy-out-check-carried-2 c = search needs
+
+check-carried-requires : tie.Need-check-carried-requires
+check-carried-requires c κs =
+    let n = lengths-sound _ _ _ _ _ _ (lengths-fit (c .before .before .before .before .before .before .before .before .before .before .before .before)) in
+    let cell = cells-sound _ _ _ _ _ (cells-fit c) in
+    record {
+      some = omega arith;
+      bases = omega arith;
+      interfaces = omega arith;
+      deep = λ i l. cell i (omega arith) .depth;
+      base = λ i l. cell i (omega arith) .base;
+    }
+
+enum-told-11 : tie.Need-enum-told-11
+enum-told-11 c = search needs
+
+enum-told-12 : tie.Need-enum-told-12
+enum-told-12 c = search needs
+
+returns-6 : tie.Need-returns-6
+returns-6 c = sym (after-cells (c .before .before .before) ∙ stop-at _ _ (refused-by 8 _ _ _ (c .before .before .check-carried .ensures) (c .enum-told12 .given .1)))
+
+check-ledger-requires : tie.Need-check-ledger-requires
+check-ledger-requires c κs = search needs
+
+returns-7 : tie.Need-returns-7
+returns-7 c = c .check-ledger .ensures ∙ sym (after-carried (c .before) ∙ last-one 9 _)
+
+pub check-record-spec : {M : Type 1} → statement M
+check-record-spec =
+    tie.close
+    (tie.spec
+    check-lengths-requires
+    enum-told
+    enum-told-2
+    returns
+    check-cell-length-requires
+    enum-told-3
+    enum-told-4
+    returns-2
+    check-boundaries-requires
+    enum-told-5
+    enum-told-6
+    returns-3
+    check-boundaries-requires-2
+    enum-told-7
+    enum-told-8
+    returns-4
+    check-cells-requires
+    enum-told-9
+    enum-told-10
+    returns-5
+    element-copy-out-check-carried
+    element-copy-out-check-carried-2
+    check-carried-requires
+    enum-told-11
+    enum-told-12
+    returns-6
+    check-ledger-requires
+    returns-7)

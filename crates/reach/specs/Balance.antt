@@ -1,0 +1,36 @@
+-- What demand 3 measures of a record: mass held, what the ledger says came in and went out, and bounds on the concentration.
+use mathlib.Core.Path.{_≡_}
+use mathlib.Core.List.{List}
+use Prim.Native.Nat.{ℕ, _+_, _*_, _≤_, _<_}
+use Rattle.numbers.specs.Index.{sum}
+use Rattle.reach.specs.Limits.{wall}
+use Rattle.reach.specs.Reach.{Reach, cells, massAt, baseAt, leftEnd, rightEnd}
+use Rattle.reach.specs.declared.boundary.Boundary.{Boundary}
+use Rattle.reach.specs.declared.ledger.Ledger.{Ledger}
+
+unfoldable pub massHeld : Reach → ℕ
+massHeld s = sum (s .mass)
+
+unfoldable pub massIn : Ledger → ℕ
+massIn k = k .left .«mass_in» + k .right .«mass_in»
+
+unfoldable pub massOut : Ledger → ℕ
+massOut k = k .left .«mass_out» + k .right .«mass_out»
+
+-- from s to t no mass is lost or made: what is held changes by what the ledger gained in less what it gained out
+unfoldable pub MassBalanced : (s t : Reach) → Type 0
+MassBalanced s t = massHeld t + massOut (t .ledger) + massIn (s .ledger) ≡ massHeld s + massOut (s .ledger) + massIn (t .ledger)
+
+-- two numbers bound a cell when m is at least the lower times b and at most the upper times b
+pub record CellsWithin (lo hi : ℕ) (s : Reach) : Type 0 where
+  pub above : (i : ℕ) → i < cells s → lo * baseAt s i ≤ massAt s i
+  pub below : (i : ℕ) → i < cells s → massAt s i ≤ hi * baseAt s i
+
+-- and an end, but a wall, when its concentration lies from the lower to the upper
+pub record EndWithin (lo hi : ℕ) (e : Boundary) : Type 0 where
+  pub above : (e .kind ≡ wall → ⊥) → lo ≤ e .concentration
+  pub below : (e .kind ≡ wall → ⊥) → e .concentration ≤ hi
+
+pub record EndsWithin (lo hi : ℕ) (es : List Boundary) : Type 0 where
+  pub left : EndWithin lo hi (leftEnd es)
+  pub right : EndWithin lo hi (rightEnd es)

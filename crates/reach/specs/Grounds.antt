@@ -1,0 +1,140 @@
+-- Document 01, 'Grounds for refusal, in checking order': the list, and grounds 4 to 9.
+use mathlib.Core.List.{List, [], _∷_}
+use mathlib.Core.Bool.{Bool, true, false, cond}
+use Prim.Native.Nat.{ℕ, _+_, _*_}
+use lib.IntN.{ℤ, pos, _+ℤ_, _-ℤ_, negℤ, natAbs}
+use lib.ListN.{length, getD}
+use lib.Dec.{leb, eqb}
+use Rattle.numbers.specs.Index.{allOf, allBelow}
+use Rattle.numbers.specs.Signed.{positive, eqℤ}
+use Rattle.flux.specs.Limits.{depthMost, velocityMost, bedMost, cellLengthLeast, cellLengthMost}
+use Rattle.reach.specs.Limits.{cellsMost, concentrationMost, totalMost, wall, openEnd, fed}
+use Rattle.reach.specs.Reach.{Reach, leftEnd, rightEnd}
+use Rattle.reach.specs.declared.boundary.Boundary.{Boundary}
+use Rattle.reach.specs.declared.ledger.Totals.{Totals}
+use Rattle.reach.specs.declared.ledger.Ledger.{Ledger}
+use Rattle.reach.specs.declared.refusal.Check.{Check}
+use Rattle.reach.specs.declared.refusal.Check.the-variants.{Pass, Refused}
+
+-- ---- the list
+
+-- a ground for refusal: its number, and whether the call stands it
+pub record Ground : Type 0 where
+  pub number : ℕ
+  pub stands : Bool
+
+abbrev pub ground : ℕ → Bool → Ground
+ground n t = record { number = n; stands = t }
+
+-- the first ground, in checking order, that the call does not stand
+unfoldable pub firstRefusal : List Ground → Check
+firstRefusal [] = Pass
+firstRefusal (g ∷ gs) = cond (g .stands) (firstRefusal gs) (Refused (g .number))
+
+-- a check's answer as the paper's number, 0 for none
+abbrev pub numberOf : Check → ℕ
+numberOf Pass = 0
+numberOf (Refused n) = n
+
+-- the answer of the check of one ground
+abbrev pub passOr : ℕ → Bool → Check
+passOr n true = Pass
+passOr n false = Refused n
+
+-- ---- 4: the bed column's length is in 1..512, and the other columns' lengths fit it
+unfoldable pub lengthsFit : (bed depth discharge mass base carried : ℕ) → Bool
+lengthsFit n h q m b c =
+    allOf (leb 1 n ∷ leb n cellsMost ∷ eqb h n ∷ eqb q n ∷ eqb m n ∷ eqb b n ∷ eqb c (n + 1) ∷ [])
+
+-- ---- 5: X
+unfoldable pub cellLengthFits : ℕ → Bool
+cellLengthFits X = allOf (leb cellLengthLeast X ∷ leb X cellLengthMost ∷ [])
+
+-- ---- 6: a boundary keeps to its kind, and its reserved field (the paper's 'zero field') is 0
+
+-- depth, discharge and concentration 0
+unfoldable pub wallFits : (depth concentration : ℕ) (discharge : ℤ) → Bool
+wallFits h k q = allOf (eqb h 0 ∷ eqb (natAbs q) 0 ∷ eqb k 0 ∷ [])
+
+-- depth and discharge 0, concentration 0..500,000
+unfoldable pub openFits : (depth concentration : ℕ) (discharge : ℤ) → Bool
+openFits h k q = allOf (eqb h 0 ∷ eqb (natAbs q) 0 ∷ leb k concentrationMost ∷ [])
+
+-- depth 1..4,000,000, |discharge| ≤ 8,000 times depth, concentration as before
+unfoldable pub fedFits : (depth concentration : ℕ) (discharge : ℤ) → Bool
+fedFits h k q = allOf (leb 1 h ∷ leb h depthMost ∷ leb (natAbs q) (velocityMost * h) ∷ leb k concentrationMost ∷ [])
+
+unfoldable pub kindFits : (kind depth concentration : ℕ) (discharge : ℤ) → Bool
+kindFits kind h k q =
+    cond (eqb kind wall) (wallFits h k q) (cond (eqb kind openEnd) (openFits h k q) (cond (eqb kind fed) (fedFits h k q) false))
+
+unfoldable pub boundaryFits : Boundary → Bool
+boundaryFits e = allOf (eqb (e .reserved) 0 ∷ kindFits (e .kind) (e .depth) (e .concentration) (e .discharge) ∷ [])
+
+unfoldable pub boundariesFit : List Boundary → Bool
+boundariesFit es = allOf (boundaryFits (leftEnd es) ∷ boundaryFits (rightEnd es) ∷ [])
+
+-- ---- 7: the values of a cell are in range
+unfoldable pub cellFits : (z : ℤ) (h : ℕ) (q : ℤ) (m b : ℕ) → Bool
+cellFits z h q m b =
+    allOf
+    (leb (natAbs z) bedMost
+    ∷ leb h depthMost
+    ∷ leb (natAbs q) (velocityMost * h)
+    ∷ leb b depthMost
+    ∷ leb m (concentrationMost * b)
+    ∷ [])
+
+unfoldable pub cellsFit : List ℤ → List ℕ → List ℤ → List ℕ → List ℕ → Bool
+cellsFit z h q m b =
+    allBelow (length z) (λ i. cellFits (getD z i (pos 0)) (getD h i 0) (getD q i (pos 0)) (getD m i 0) (getD b i 0))
+
+-- ---- 8: the carried water keeps its rules
+
+-- at a cell of depth h and base depth b with l carried over its left and r over its right:
+-- |c| ≤ 4,000,000, h = b + c(i) − c(i+1), and max(c(i+1),0) + max(−c(i),0) ≤ b
+unfoldable pub carriedFits : (h b : ℕ) (l r : ℤ) → Bool
+carriedFits h b l r =
+    allOf
+    (leb (natAbs l) depthMost
+    ∷ leb (natAbs r) depthMost
+    ∷ eqℤ (pos h) (pos b +ℤ l -ℤ r)
+    ∷ leb (positive r + positive (negℤ l)) b
+    ∷ [])
+
+-- at a wall c is 0
+unfoldable pub shutFits : (kind : ℕ) (c : ℤ) → Bool
+shutFits kind c = cond (eqb kind wall) (eqb (natAbs c) 0) true
+
+unfoldable pub carriedCellsFit : (h b : List ℕ) (c : List ℤ) → Bool
+carriedCellsFit h b c =
+    allBelow (length h) (λ i. carriedFits (getD h i 0) (getD b i 0) (getD c i (pos 0)) (getD c (i + 1) (pos 0)))
+
+unfoldable pub carriedFit : (h b : List ℕ) (c : List ℤ) (leftKind rightKind : ℕ) → Bool
+carriedFit h b c leftKind rightKind =
+    allOf
+    (carriedCellsFit h b c
+    ∷ shutFits leftKind (getD c 0 (pos 0))
+    ∷ shutFits rightKind (getD c (length h) (pos 0))
+    ∷ [])
+
+-- ---- 9: no total exceeds 10^18
+unfoldable pub totalsFit : Totals → Bool
+totalsFit t =
+    allOf (leb (t .«water_in») totalMost ∷ leb (t .«water_out») totalMost ∷ leb (t .«mass_in») totalMost ∷ leb (t .«mass_out») totalMost ∷ [])
+
+unfoldable pub ledgerFits : Ledger → Bool
+ledgerFits k = allOf (totalsFit (k .left) ∷ totalsFit (k .right) ∷ [])
+
+-- ---- grounds 4 to 9 of a call on the record s that is given the pair of boundaries es to hold; a call that is given none
+-- holds the pair that it has
+abbrev pub recordGrounds : Reach → List Boundary → List Ground
+recordGrounds s es =
+    ground 4 (lengthsFit (length (s .bed)) (length (s .depth)) (length (s .discharge)) (length (s .mass)) (length (s .base)) (length (s .carried)))
+    ∷ ground 5 (cellLengthFits (s .cellLength))
+    ∷ ground 6 (boundariesFit (s .ends))
+    ∷ ground 6 (boundariesFit es)
+    ∷ ground 7 (cellsFit (s .bed) (s .depth) (s .discharge) (s .mass) (s .base))
+    ∷ ground 8 (carriedFit (s .depth) (s .base) (s .carried) (leftEnd (s .ends) .kind) (rightEnd (s .ends) .kind))
+    ∷ ground 9 (ledgerFits (s .ledger))
+    ∷ []

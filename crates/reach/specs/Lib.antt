@@ -1,0 +1,6 @@
+pub mod Limits
+pub mod Reach
+pub mod Grounds
+pub mod Ranges
+pub mod Outcome
+pub mod Balance

@@ -1,0 +1,24 @@
+-- Limits of a record (document 01, 'What a record holds'); those of depth, velocity, bed level and cell length are flux's.
+use Prim.Native.Nat.{ℕ}
+
+-- cells of a reach
+abbrev pub cellsMost : ℕ
+cellsMost = 512
+
+-- concentration, micrograms per litre
+abbrev pub concentrationMost : ℕ
+concentrationMost = 500_000
+
+-- each total of the ledger
+abbrev pub totalMost : ℕ
+totalMost = 1_000_000_000_000_000_000
+
+-- kinds of boundary: a 'wall', an 'open' end, a 'fed' end
+abbrev pub wall : ℕ
+wall = 0
+
+abbrev pub openEnd : ℕ
+openEnd = 1
+
+abbrev pub fed : ℕ
+fed = 2

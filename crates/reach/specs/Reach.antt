@@ -1,0 +1,67 @@
+-- Document 01, 'What a record holds': the record of a reach as a call is given it, with the boundaries (the paper's 'ends') and the
+-- ledger (its 'book') that travel with it.
+use mathlib.Core.List.{List}
+use Prim.Native.Nat.{ℕ, _+_}
+use lib.IntN.{ℤ, pos, negℤ}
+use lib.ListN.{length, getD}
+use Rattle.numbers.specs.Signed.{positive}
+use Rattle.reach.specs.declared.boundary.Boundary.{Boundary}
+use Rattle.reach.specs.declared.ledger.Ledger.{Ledger}
+
+pub record Reach : Type 0 where
+  -- of each cell: bed level z, depth h, discharge q, mass m (the paper's 'nutrient', in 'grains'), base depth b
+  pub bed : List ℤ
+  pub depth : List ℕ
+  pub discharge : List ℤ
+  pub mass : List ℕ
+  pub base : List ℕ
+  -- of each interface: the water c carried over it since the last transport (the paper's 'settling'), positive rightwards
+  pub carried : List ℤ
+  -- X
+  pub cellLength : ℕ
+  -- the left and the right boundary
+  pub ends : List Boundary
+  pub ledger : Ledger
+
+abbrev pub reachOf : List ℤ → List ℕ → List ℤ → List ℕ → List ℕ → List ℤ → ℕ → List Boundary → Ledger → Reach
+reachOf z h q m b c X es k = record { bed = z; depth = h; discharge = q; mass = m; base = b; carried = c; cellLength = X; ends = es; ledger = k }
+
+-- n
+abbrev pub cells : Reach → ℕ
+cells s = length (s .bed)
+
+-- the values of cell i, c of interface i; past the end of a column they are 0
+abbrev pub bedAt : Reach → ℕ → ℤ
+bedAt s i = getD (s .bed) i (pos 0)
+
+abbrev pub depthAt : Reach → ℕ → ℕ
+depthAt s i = getD (s .depth) i 0
+
+abbrev pub dischargeAt : Reach → ℕ → ℤ
+dischargeAt s i = getD (s .discharge) i (pos 0)
+
+abbrev pub massAt : Reach → ℕ → ℕ
+massAt s i = getD (s .mass) i 0
+
+abbrev pub baseAt : Reach → ℕ → ℕ
+baseAt s i = getD (s .base) i 0
+
+abbrev pub carriedAt : Reach → ℕ → ℤ
+carriedAt s i = getD (s .carried) i (pos 0)
+
+-- R = max(c(i+1), 0) and L = max(−c(i), 0): the water that left cell i over its right and its left
+abbrev pub outRight : Reach → ℕ → ℕ
+outRight s i = positive (carriedAt s (i + 1))
+
+abbrev pub outLeft : Reach → ℕ → ℕ
+outLeft s i = positive (negℤ (carriedAt s i))
+
+-- what stands for a boundary that is not there; never read of a pair
+abbrev pub noBoundary : Boundary
+noBoundary = record { kind = 0; reserved = 0; depth = 0; concentration = 0; discharge = pos 0 }
+
+abbrev pub leftEnd : List Boundary → Boundary
+leftEnd es = getD es 0 noBoundary
+
+abbrev pub rightEnd : List Boundary → Boundary
+rightEnd es = getD es 1 noBoundary

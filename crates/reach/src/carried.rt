@@ -1,0 +1,73 @@
+// Carried water: ground 8.
+ghost use mathlib.Core.Path.{_≡_};
+ghost use Prim.Native.Nat.{_≤_};
+ghost use Rattle.flux.specs.Limits.{depthMost};
+ghost use Rattle.reach.specs.Grounds.{carriedFits, carriedCellsFit, shutFits, carriedFit, passOr};
+ghost use Rattle.reach.specs.Ranges.{CarriedLengths};
+use super::boundary::WALL;
+use super::refusal::Check;
+use numbers::signed::left_part;
+use numbers::signed::magnitude;
+use numbers::signed::right_part;
+
+// h = b + l − r is tested with its negative parts on the other side.
+fn carried_fits(h: u64, b: u64, l: i64, r: i64) -> bool
+    requires { ⌜ (h ≤ depthMost) × (b ≤ depthMost) ⌝ }
+    ensures { λ t. ⌜ t ≡ carriedFits h b l r ⌝ }
+{
+    let left_in = right_part(l);
+    let left_out = left_part(l);
+    let right_in = left_part(r);
+    let right_out = right_part(r);
+    if 4_000_000 < left_in + left_out {
+        return false;
+    }
+    if 4_000_000 < right_in + right_out {
+        return false;
+    }
+    if h + left_out + right_out != b + left_in + right_in {
+        return false;
+    }
+    right_out + left_out <= b
+}
+
+// At a wall nothing is carried.
+fn shut_fits(kind: u32, c: i64) -> bool
+    ensures { λ r. ⌜ r ≡ shutFits kind c ⌝ }
+{
+    if kind != WALL {
+        return true;
+    }
+    magnitude(c) == 0
+}
+
+fn check_carried_cells(h: &[u64], b: &[u64], c: &[i64]) -> Check
+    requires { ⌜ CarriedLengths (now h) (now b) (now c) ⌝ }
+    ensures { λ r. ⌜ r ≡ passOr 8 (carriedCellsFit (now (h .entry)) (now (b .entry)) (now (c .entry))) ⌝ }
+{
+    let n = h.len();
+    let mut i = 0;
+    while i < n {
+        if !carried_fits(h[i], b[i], c[i], c[i + 1]) {
+            return Check::Refused(8);
+        }
+        i += 1;
+    }
+    Check::Pass
+}
+
+pub fn check_carried(h: &[u64], b: &[u64], c: &[i64], left_kind: u32, right_kind: u32) -> Check
+    requires { ⌜ CarriedLengths (now h) (now b) (now c) ⌝ }
+    ensures { λ r. ⌜ r ≡ passOr 8 (carriedFit (now (h .entry)) (now (b .entry)) (now (c .entry)) «left_kind» «right_kind») ⌝ }
+{
+    let Check::Pass = check_carried_cells(h, b, c) else {
+        return Check::Refused(8);
+    };
+    if !shut_fits(left_kind, c[0]) {
+        return Check::Refused(8);
+    }
+    if !shut_fits(right_kind, c[h.len()]) {
+        return Check::Refused(8);
+    }
+    Check::Pass
+}

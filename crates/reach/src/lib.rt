@@ -1,0 +1,60 @@
+// The record of a reach, and the checks that every call on a record starts with (document 01, 'What a record holds' and
+// 'Grounds for refusal', 4 to 9).
+//
+// A record is lent as six columns: bed level z, depth h, discharge q, mass m and base depth b of each cell, and carried water c of each
+// interface. With them travel the cell length X, both boundaries as one value, and the ledger.
+pub mod boundary;
+pub mod carried;
+pub mod cells;
+pub mod ledger;
+pub mod refusal;
+
+ghost use mathlib.Core.Path.{_≡_};
+ghost use Rattle.reach.specs.Reach.{reachOf};
+ghost use Rattle.reach.specs.Grounds.{recordGrounds, firstRefusal};
+use boundary::Boundary;
+use boundary::check_boundaries;
+use carried::check_carried;
+use cells::check_cell_length;
+use cells::check_cells;
+use cells::check_lengths;
+use ledger::Ledger;
+use ledger::check_ledger;
+use refusal::Check;
+
+// Grounds 4 to 9 in checking order. A call that is given a new pair of boundaries has it checked as `given`; any other gives the pair
+// that it holds.
+pub fn check_record(
+    z: &[i64],
+    h: &[u64],
+    q: &[i64],
+    m: &[u64],
+    b: &[u64],
+    c: &[i64],
+    x: u64,
+    ends: [Boundary; 2],
+    ledger: Ledger,
+    given: [Boundary; 2],
+) -> Check
+    ensures { λ r. ⌜ r ≡ firstRefusal (recordGrounds (reachOf (now (z .entry)) (now (h .entry)) (now (q .entry)) (now (m .entry)) (now (b .entry)) (now (c .entry)) x ends ledger) given) ⌝ }
+{
+    let Check::Pass = check_lengths(z, h, q, m, b, c) else {
+        return Check::Refused(4);
+    };
+    let Check::Pass = check_cell_length(x) else {
+        return Check::Refused(5);
+    };
+    let Check::Pass = check_boundaries(ends) else {
+        return Check::Refused(6);
+    };
+    let Check::Pass = check_boundaries(given) else {
+        return Check::Refused(6);
+    };
+    let Check::Pass = check_cells(z, h, q, m, b) else {
+        return Check::Refused(7);
+    };
+    let Check::Pass = check_carried(h, b, c, ends[0].kind, ends[1].kind) else {
+        return Check::Refused(8);
+    };
+    check_ledger(ledger)
+}

@@ -1,0 +1,205 @@
+-- `transport::set_boundaries` meets its contract: `stopped`, `full` and `accepted` say what each outcome is. Assumes nothing.
+use mathlib.Core.Path.{_≡_, refl, sym, ap, ap₂, _∙_, subst}
+use Prim.Native.Nat.{ℕ}
+use denote.Ref.{now}
+use native.Mathlib.Omega.{arith}
+use Rattle.mass.specs.Transport.{Columns, columns, movedMass}
+use Rattle.mass.specs.Ranges.{Ready}
+use Rattle.reach.specs.Reach.{Reach, reachOf}
+use Rattle.reach.specs.Grounds.{firstRefusal, recordGrounds, ledgerFits, numberOf}
+use Rattle.reach.specs.declared.ledger.Ledger.{Ledger}
+use Rattle.reach.specs.declared.refusal.Check.the-variants.{Pass}
+use Rattle.reach.proofs.Sound.{Sound, sound}
+use Rattle.transport.specs.Calls.{columnsOf, answer, ledgerWith, transportLedger, transported}
+use Rattle.transport.specs.Ranges.{Crosses}
+use Rattle.transport.proofs.CallsLaws.{ready, columns-with, small, ledger-is, stopped, full, accepted, entered-refused, entered-booked}
+use borrow.Author.Needs.{needs}
+use Rattle.transport.proofs.set_boundaries.Statement.{statement}
+use Rattle.transport.proofs.set_boundaries.Tie as tie
+
+abbrev entry : tie.After-check-record → tie.Start
+entry c = c .before .before .before .before .before .before .before
+
+abbrev start : tie.After-enum-told → tie.Start
+start c = entry (c .before .before)
+
+abbrev told : tie.After-crossed-of → tie.After-enum-told
+told c = c .before .before .before .before
+
+abbrev reach : tie.Start → Reach
+reach s =
+    reachOf (now (s .args .z)) (now (s .args .h)) (now (s .args .q)) (now (s .args .m)) (now (s .args .b)) (now (s .args .c)) (s .args .x) (s .args .t8) (s .args .ledger)
+
+passed : (c : tie.After-enum-told) → firstRefusal (recordGrounds (reach (start c)) (start c .args .given)) ≡ Pass
+passed c = sym (c .before .before .check-record .ensures) ∙ c .enum-told .given .1
+
+checked : (c : tie.After-enum-told) → Sound (reach (start c))
+checked c = sound (reach (start c)) (start c .args .given) (passed c)
+
+crossed : (c : tie.After-crossed-of) →
+    let x = c .crossed-of .result in
+    Crosses (columnsOf (reach (start (told c)))) (x .«left_in») (x .«left_out») (x .«right_in») (x .«right_out»)
+crossed c =
+    let x = c .crossed-of .result in
+    subst (λ (s : Columns). Crosses s (x .«left_in») (x .«left_out») (x .«right_in») (x .«right_out»))
+    (columns-with (reach (start (told c))) (checked (told c)))
+    (c .crossed-of .ensures)
+
+booked : (c : tie.After-crossed-of) →
+    let x = c .crossed-of .result in
+    ledgerWith (start (told c) .args .ledger) (x .«left_in») (x .«left_out») (x .«right_in») (x .«right_out») ≡ transportLedger (reach (start (told c)))
+booked c = ledger-is (reach (start (told c))) (checked (told c)) _ _ _ _ (crossed c)
+
+-- the columns with what enters, as the code computed it
+entering : (c : tie.After-crossed-of) →
+    let s = reach (start (told c)) in
+    let x = c .crossed-of .result in
+    columnsOf s ≡ columns (s .mass) (s .base) (s .carried) (x .«left_in») (x .«right_in»)
+entering c =
+    let s = reach (start (told c)) in
+    sym (ap₂ (λ (l r : ℕ). columns (s .mass) (s .base) (s .carried) l r) (crossed c .left-in) (crossed c .right-in))
+
+answered-by : (c : tie.After-refused) →
+    let s = entry (c .before .before .before) .args in
+    c .refused .result ≡ answer (c .before .enum-told2 .given .0 .0) (s .t8) (s .ledger)
+answered-by c =
+    let s = entry (c .before .before .before) .args in
+    c .refused .ensures ∙ ap (λ k. answer (numberOf k) (s .t8) (s .ledger)) (c .before .enum-told2 .given .1)
+
+check-record-requires : tie.Need-check-record-requires
+check-record-requires c κs = search needs
+
+enum-told : tie.Need-enum-told
+enum-told c = search needs
+
+enum-told-2 : tie.Need-enum-told-2
+enum-told-2 c = search needs
+
+refused-requires : tie.Need-refused-requires
+refused-requires c κs = search needs
+
+same-length : tie.Need-same-length
+same-length c = search needs
+
+same-length-2 : tie.Need-same-length-2
+same-length-2 c = search needs
+
+same-length-3 : tie.Need-same-length-3
+same-length-3 c = search needs
+
+returns : tie.Need-returns
+returns c =
+    let k = c .before .before .before in
+    let t = c .before .enum-told2 .given in
+    let a = answered-by c in
+    rw (stopped (reach (entry k)) (entry k .args .given) (t .0 .0) (sym (k .check-record .ensures) ∙ t .1))
+    (record {
+      refusal-is = ap (λ r. r .refusal) a;
+      ends-are = ap (λ r. r .ends) a;
+      ledger-is = ap (λ r. r .ledger) a;
+      mass-is = refl;
+      base-is = refl;
+      carried-is = refl;
+    })
+
+element-copy-out-crossed-of : tie.Need-element-copy-out-crossed-of
+element-copy-out-crossed-of c = search needs
+
+element-copy-out-crossed-of-2 : tie.Need-element-copy-out-crossed-of-2
+element-copy-out-crossed-of-2 c = search needs
+
+crossed-of-requires : tie.Need-crossed-of-requires
+crossed-of-requires c κs =
+    let e = c .before .before .before in
+    let k = checked e in (
+      subst Ready (sym (columns-with (reach (start e)) k)) (ready (reach (start e)) k),
+      omega (arith, k .some, k .masses),
+    )
+
+enter-requires : tie.Need-enter-requires
+enter-requires c κs = (checked (told c) .ledger, small (reach (start (told c))) (checked (told c)) _ _ _ _ (crossed c))
+
+enum-known-next : tie.Need-enum-known-next
+enum-known-next c = search needs
+
+enum-told-3 : tie.Need-enum-told-3
+enum-told-3 c = search needs
+
+same-length-4 : tie.Need-same-length-4
+same-length-4 c = search needs
+
+same-length-5 : tie.Need-same-length-5
+same-length-5 c = search needs
+
+same-length-6 : tie.Need-same-length-6
+same-length-6 c = search needs
+
+returns-2 : tie.Need-returns-2
+returns-2 c =
+    let x = c .before .before .before in
+    let s = start (told x) in
+    let q = entered-refused _ _ _ _ (c .before .before .enter .ensures) (c .enum-told3 .given .1) in
+    rw (full (reach s) (s .args .given) (passed (told x)) (ap ledgerFits (sym (booked x)) ∙ q))
+    (record { refusal-is = refl; ends-are = refl; ledger-is = refl; mass-is = refl; base-is = refl; carried-is = refl })
+
+commit-requires : tie.Need-commit-requires
+commit-requires c κs =
+    let x = c .before .before .before .before .before .before .before in
+    let k = checked (told x) in (
+      subst Ready (entering x) (ready (reach (start (told x))) k),
+      omega (arith, k .bases, k .depths),
+    )
+
+same-length-7 : tie.Need-same-length-7
+same-length-7 c = search needs
+
+same-length-8 : tie.Need-same-length-8
+same-length-8 c = search needs
+
+same-length-9 : tie.Need-same-length-9
+same-length-9 c = search needs
+
+returns-3 : tie.Need-returns-3
+unfolding transported
+returns-3 c =
+    let x = c .before .before .before .before .before .before .before .before .before .before .before .before .before in
+    let s = start (told x) in
+    let d = c .before .before .before .before .before in
+    let q = entered-booked _ _ _ _ (d .before .before .before .before .before .before .before .enter .ensures) (d .before .before .before .before .before .next .given .1) in
+    rw (accepted (reach s) (s .args .given) (passed (told x)) (ap ledgerFits (sym (booked x)) ∙ q .0))
+    (record {
+      refusal-is = refl;
+      ends-are = refl;
+      ledger-is = q .1 ∙ booked x;
+      mass-is = d .commit .ensures .0 ∙ ap movedMass (sym (entering x));
+      base-is = d .commit .ensures .1 .0;
+      carried-is = d .commit .ensures .1 .1;
+    })
+
+pub set-boundaries-spec : {M : Type 1} → statement M
+set-boundaries-spec =
+    tie.close
+    (tie.spec
+    check-record-requires
+    enum-told
+    enum-told-2
+    refused-requires
+    same-length
+    same-length-2
+    same-length-3
+    returns
+    element-copy-out-crossed-of
+    element-copy-out-crossed-of-2
+    crossed-of-requires
+    enter-requires
+    enum-known-next
+    enum-told-3
+    same-length-4
+    same-length-5
+    same-length-6
+    returns-2
+    commit-requires
+    same-length-7
+    same-length-8
+    same-length-9
+    returns-3)
