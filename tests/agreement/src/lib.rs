@@ -1,6 +1,8 @@
 //! The proved functions, each behind a safe wrapper that tests what its contract requires.
 //! Nothing checks these declarations against crates/harness/src/lib.rt: keep the two side by side.
 
+pub mod calls;
+
 pub const DEEPEST: u64 = 4_000_000;
 pub const FASTEST: i64 = 8_000;
 pub const HIGHEST: i64 = 100_000_000;

@@ -4,7 +4,7 @@
 //! rounds counts, since whatever else the machine does only adds time.
 
 use reference::flux;
-use reference::random::Random;
+use reference::random::{record_of, Random, Record};
 use std::hint::black_box;
 use std::time::Instant;
 
@@ -47,6 +47,43 @@ fn reference_side(t: u64, x: u64, h: u64, u: i64) -> flux::Side {
     flux::side(t, x, h, u)
 }
 
+/// Each call on a record that carries water over most interfaces; putting the record back as it came counts for both.
+fn compare_settling(r: &mut Random, cells: usize) {
+    let records: Vec<Record> = (0..40).map(|_| record_of(r, cells, [2, 1], true)).collect();
+    let scratch = std::cell::RefCell::new(records[0].clone());
+    compare(
+        &format!("settling {cells} cells"),
+        &(0..records.len()).collect::<Vec<_>>(),
+        |i| {
+            let mut record = scratch.borrow_mut();
+            record.clone_from(&records[i]);
+            agreement::calls::settle(&mut record)
+        },
+        |i| {
+            let mut record = scratch.borrow_mut();
+            record.clone_from(&records[i]);
+            let (x, ends, book) = (record.x, record.ends, record.book);
+            reference::settle(&mut record.columns, x, ends, book)
+        },
+        1.2,
+    );
+}
+
+/// The greatest step of a record reads every cell and writes none.
+fn compare_greatest(r: &mut Random, cells: usize) {
+    let records: Vec<Record> = (0..40).map(|_| record_of(r, cells, [2, 1], true)).collect();
+    compare(
+        &format!("greatest step of {cells} cells"),
+        &(0..records.len()).collect::<Vec<_>>(),
+        |i| agreement::calls::greatest_step(&records[i]),
+        |i| {
+            let record = &records[i];
+            reference::greatest_step(&record.columns, record.x, record.ends, record.book)
+        },
+        1.2,
+    );
+}
+
 fn main() {
     println!("{:<40} {:>12} {:>12}", "a call", "proved", "plain Rust");
     let mut r = Random::new(1);
@@ -68,4 +105,6 @@ fn main() {
         |(h, u)| reference_side(100, 1_000, h, u),
         1.2,
     );
+    compare_settling(&mut r, 512);
+    compare_greatest(&mut r, 512);
 }

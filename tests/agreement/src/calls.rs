@@ -1,0 +1,214 @@
+//! The calls on a record, in the types of the second implementation. They require nothing.
+
+use reference::random::Record;
+use reference::record::{Answer, Book, Columns, End, Totals};
+use reference::GreatestAnswer;
+
+#[repr(C)]
+#[derive(Clone, Copy)]
+struct Boundary {
+    kind: u32,
+    reserved: u32,
+    depth: u64,
+    concentration: u64,
+    discharge: i64,
+}
+
+#[repr(C)]
+#[derive(Clone, Copy)]
+struct Pair {
+    ends: [Boundary; 2],
+}
+
+#[repr(C)]
+#[derive(Clone, Copy)]
+struct RawTotals {
+    water_in: u64,
+    water_out: u64,
+    mass_in: u64,
+    mass_out: u64,
+}
+
+#[repr(C)]
+#[derive(Clone, Copy)]
+struct Ledger {
+    left: RawTotals,
+    right: RawTotals,
+}
+
+#[repr(C)]
+struct RawAnswer {
+    refusal: u32,
+    ends: [Boundary; 2],
+    ledger: Ledger,
+}
+
+#[repr(C)]
+struct RawGreatest {
+    refusal: u32,
+    ends: [Boundary; 2],
+    ledger: Ledger,
+    time: u64,
+    place: usize,
+}
+
+// A slice goes to C as a pointer and a length, bed level, depth, discharge, mass, base depth and carried water in this order.
+extern "C" {
+    fn harness_transport(
+        z: *const i64,
+        zn: usize,
+        h: *const u64,
+        hn: usize,
+        q: *const i64,
+        qn: usize,
+        m: *mut u64,
+        mn: usize,
+        b: *mut u64,
+        bn: usize,
+        c: *mut i64,
+        cn: usize,
+        x: u64,
+        held: Pair,
+        ledger: Ledger,
+    ) -> RawAnswer;
+    fn harness_set_boundaries(
+        z: *const i64,
+        zn: usize,
+        h: *const u64,
+        hn: usize,
+        q: *const i64,
+        qn: usize,
+        m: *mut u64,
+        mn: usize,
+        b: *mut u64,
+        bn: usize,
+        c: *mut i64,
+        cn: usize,
+        x: u64,
+        held: Pair,
+        ledger: Ledger,
+        new: Pair,
+    ) -> RawAnswer;
+    fn harness_greatest_step(
+        z: *const i64,
+        zn: usize,
+        h: *const u64,
+        hn: usize,
+        q: *const i64,
+        qn: usize,
+        m: *const u64,
+        mn: usize,
+        b: *const u64,
+        bn: usize,
+        c: *const i64,
+        cn: usize,
+        x: u64,
+        held: Pair,
+        ledger: Ledger,
+    ) -> RawGreatest;
+}
+
+fn boundary(e: End) -> Boundary {
+    Boundary {
+        kind: e.kind,
+        reserved: e.zero,
+        depth: e.depth.into(),
+        concentration: e.concentration.into(),
+        discharge: e.discharge,
+    }
+}
+
+/// Every end that these tests hand in fits 32 bits, and a call hands back one of those.
+fn end(b: Boundary) -> End {
+    End {
+        kind: b.kind,
+        depth: b.depth.try_into().expect("an end as it came"),
+        concentration: b.concentration.try_into().expect("an end as it came"),
+        zero: b.reserved,
+        discharge: b.discharge,
+    }
+}
+
+fn raw(t: Totals) -> RawTotals {
+    RawTotals {
+        water_in: t.water_in,
+        water_out: t.water_out,
+        mass_in: t.nutrient_in,
+        mass_out: t.nutrient_out,
+    }
+}
+
+fn totals(t: RawTotals) -> Totals {
+    Totals {
+        water_in: t.water_in,
+        water_out: t.water_out,
+        nutrient_in: t.mass_in,
+        nutrient_out: t.mass_out,
+    }
+}
+
+fn ledger(b: Book) -> Ledger {
+    Ledger {
+        left: raw(b.left),
+        right: raw(b.right),
+    }
+}
+
+fn book(k: Ledger) -> Book {
+    Book {
+        left: totals(k.left),
+        right: totals(k.right),
+    }
+}
+
+fn answer(r: RawAnswer) -> Answer {
+    Answer {
+        refusal: r.refusal,
+        ends: r.ends.map(end),
+        book: book(r.ledger),
+    }
+}
+
+fn pair(ends: [End; 2]) -> Pair {
+    Pair {
+        ends: ends.map(boundary),
+    }
+}
+
+/// Calls `$function` with the record's columns, X, ends and book, and whatever follows.
+macro_rules! call {
+    ($function:ident, $record:expr, $slice:ident $(, $more:expr)*) => {{
+        let Record { columns, x, ends, book } = $record;
+        let Columns { bed, depth, discharge, nutrient, base, carried } = columns;
+        unsafe {
+            $function(
+                bed.as_ptr(), bed.len(),
+                depth.as_ptr(), depth.len(),
+                discharge.as_ptr(), discharge.len(),
+                nutrient.$slice(), nutrient.len(),
+                base.$slice(), base.len(),
+                carried.$slice(), carried.len(),
+                (*x).into(), pair(*ends), ledger(*book) $(, $more)*
+            )
+        }
+    }};
+}
+
+pub fn settle(r: &mut Record) -> Answer {
+    answer(call!(harness_transport, r, as_mut_ptr))
+}
+
+pub fn set_ends(r: &mut Record, new: [End; 2]) -> Answer {
+    answer(call!(harness_set_boundaries, r, as_mut_ptr, pair(new)))
+}
+
+pub fn greatest_step(r: &Record) -> GreatestAnswer {
+    let g = call!(harness_greatest_step, r, as_ptr);
+    GreatestAnswer {
+        refusal: g.refusal,
+        ends: g.ends.map(end),
+        book: book(g.ledger),
+        t: g.time.try_into().expect("a time step"),
+        place: g.place.try_into().expect("a place"),
+    }
+}
