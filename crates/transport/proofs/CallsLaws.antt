@@ -73,7 +73,7 @@ module _ (s : Reach) (k : Sound s) where
   }
 
   -- the columns with the concentrations, as the code has them
-  pub columns-with : columnsWith (s .mass) (s .base) (s .carried) (leftEnd (s .ends) .concentration) (rightEnd (s .ends) .concentration) ≡ columnsOf s
+  pub columns-with : columnsWith (s .mass) (s .base) (s .carried) (s .ends) ≡ columnsOf s
   unfolding enteringLeft enteringRight
   columns-with =
       ap (λ (n : ℕ). columns (s .mass) (s .base) (s .carried) (positive (carriedAt s 0) * leftEnd (s .ends) .concentration) (positive (negℤ (carriedAt s n)) * rightEnd (s .ends) .concentration))

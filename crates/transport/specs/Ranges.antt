@@ -7,11 +7,15 @@ use lib.ListN.{length, getD}
 use Rattle.numbers.specs.Signed.{positive}
 use Rattle.mass.specs.Transport.{Columns, columns, rightwards, leftwards}
 use Rattle.mass.specs.Ranges.{massMost}
+use Rattle.reach.specs.Reach.{leftEnd, rightEnd}
+use Rattle.reach.specs.declared.boundary.Boundary.{Boundary}
 
--- columns with the concentrations of both boundaries: what enters is the water that came in times the concentration
-abbrev pub columnsWith : List ℕ → List ℕ → List ℤ → (left right : ℕ) → Columns
-columnsWith m b c left right =
-    columns m b c (positive (getD c 0 (pos 0)) * left) (positive (negℤ (getD c (length m) (pos 0))) * right)
+-- columns with a pair of boundaries: what enters is the water that came in times the boundary's concentration
+abbrev pub columnsWith : List ℕ → List ℕ → List ℤ → List Boundary → Columns
+columnsWith m b c es =
+    columns m b c
+    (positive (getD c 0 (pos 0)) * leftEnd es .concentration)
+    (positive (negℤ (getD c (length m) (pos 0))) * rightEnd es .concentration)
 
 -- the mass that crosses both boundaries, in and out, and that it is small
 pub record Crosses (s : Columns) (leftIn leftOut rightIn rightOut : ℕ) : Type 0 where

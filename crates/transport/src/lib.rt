@@ -59,14 +59,14 @@ pub struct Crossed {
 }
 
 // What enters is the water that came in times the boundary's concentration; what leaves are shares of the first and the last cell.
-pub fn crossed_of(m: &[u64], b: &[u64], c: &[i64], left: u64, right: u64) -> Crossed
-    requires { ⌜ Ready (columnsWith (now m) (now b) (now c) left right) ⌝ }
+pub fn crossed_of(m: &[u64], b: &[u64], c: &[i64], ends: [Boundary; 2]) -> Crossed
+    requires { ⌜ Ready (columnsWith (now m) (now b) (now c) ends) ⌝ }
     requires { ⌜ 1 ≤ length (now m) ⌝ }
-    ensures { λ r. ⌜ Crosses (columnsWith (now (m .entry)) (now (b .entry)) (now (c .entry)) left right) (r .«left_in») (r .«left_out») (r .«right_in») (r .«right_out») ⌝ }
+    ensures { λ r. ⌜ Crosses (columnsWith (now (m .entry)) (now (b .entry)) (now (c .entry)) ends) (r .«left_in») (r .«left_out») (r .«right_in») (r .«right_out») ⌝ }
 {
     let n = m.len();
-    let left_in = right_part(c[0]) * left;
-    let right_in = left_part(c[n]) * right;
+    let left_in = right_part(c[0]) * ends[0].concentration;
+    let right_in = left_part(c[n]) * ends[1].concentration;
     let first = leaving(m, b, c, right_in, 0);
     let last = leaving(m, b, c, right_in, n - 1);
     Crossed {
@@ -145,7 +145,7 @@ pub fn set_boundaries(
     let Check::Pass = checked else {
         return refused(checked, ends, ledger);
     };
-    let crossed = crossed_of(m, b, c, ends[0].concentration, ends[1].concentration);
+    let crossed = crossed_of(m, b, c, ends);
     let Entered::Booked(next) = enter(ledger, crossed) else {
         return Answer {
             refusal: 13,

@@ -34,13 +34,19 @@ after-lengths : (c : tie.After-enum-told) → Rest 1 (c .before .before .before 
 after-lengths c = go-on _ _ (lengths-fit c) refl
 
 after-cell-length : (c : tie.After-enum-told3) → Rest 2 (c .before .before .before .before .before .before .before .before .before)
-after-cell-length c = after-lengths (c .before .before .before) ∙ go-on _ _ (passed 5 _ _ (c .before .before .check-cell-length .ensures) (c .enum-told3 .given .1)) refl
+after-cell-length c =
+    after-lengths (c .before .before .before)
+    ∙ go-on _ _ (passed 5 _ _ (c .before .before .check-cell-length .ensures) (c .enum-told3 .given .1)) refl
 
 after-held : (c : tie.After-enum-told5) → Rest 3 (c .before .before .before .before .before .before .before .before .before .before .before .before)
-after-held c = after-cell-length (c .before .before .before) ∙ go-on _ _ (passed 6 _ _ (c .before .before .check-boundaries .ensures) (c .enum-told5 .given .1)) refl
+after-held c =
+    after-cell-length (c .before .before .before)
+    ∙ go-on _ _ (passed 6 _ _ (c .before .before .check-boundaries .ensures) (c .enum-told5 .given .1)) refl
 
 after-given : (c : tie.After-enum-told7) → Rest 4 (c .before .before .before .before .before .before .before .before .before .before .before .before .before .before .before)
-after-given c = after-held (c .before .before .before) ∙ go-on _ _ (passed 6 _ _ (c .before .before .check-boundaries2 .ensures) (c .enum-told7 .given .1)) refl
+after-given c =
+    after-held (c .before .before .before)
+    ∙ go-on _ _ (passed 6 _ _ (c .before .before .check-boundaries2 .ensures) (c .enum-told7 .given .1)) refl
 
 cells-fit : (c : tie.After-enum-told9) → Stands 4 (c .before .before .before .before .before .before .before .before .before .before .before .before .before .before .before .before .before .before)
 cells-fit c = passed 7 _ _ (c .before .before .check-cells .ensures) (c .enum-told9 .given .1)
@@ -49,7 +55,9 @@ after-cells : (c : tie.After-enum-told9) → Rest 5 (c .before .before .before .
 after-cells c = after-given (c .before .before .before) ∙ go-on _ _ (cells-fit c) refl
 
 after-carried : (c : tie.After-enum-told11) → Rest 6 (c .before .before .before .before .before .before .before .before .before .before .before .before .before .before .before .before .before .before .before .before .before)
-after-carried c = after-cells (c .before .before .before) ∙ go-on _ _ (passed 8 _ _ (c .before .before .check-carried .ensures) (c .enum-told11 .given .1)) refl
+after-carried c =
+    after-cells (c .before .before .before)
+    ∙ go-on _ _ (passed 8 _ _ (c .before .before .check-carried .ensures) (c .enum-told11 .given .1)) refl
 
 check-lengths-requires : tie.Need-check-lengths-requires
 check-lengths-requires c κs = search needs
@@ -73,7 +81,8 @@ enum-told-4 : tie.Need-enum-told-4
 enum-told-4 c = search needs
 
 returns-2 : tie.Need-returns-2
-returns-2 c = sym (after-lengths (c .before .before .before) ∙ stop-at _ _ (refused-by 5 _ _ _ (c .before .before .check-cell-length .ensures) (c .enum-told4 .given .1)))
+returns-2 c =
+    sym (after-lengths (c .before .before .before) ∙ stop-at _ _ (refused-by 5 _ _ _ (c .before .before .check-cell-length .ensures) (c .enum-told4 .given .1)))
 
 check-boundaries-requires : tie.Need-check-boundaries-requires
 check-boundaries-requires c κs = search needs
@@ -85,7 +94,8 @@ enum-told-6 : tie.Need-enum-told-6
 enum-told-6 c = search needs
 
 returns-3 : tie.Need-returns-3
-returns-3 c = sym (after-cell-length (c .before .before .before) ∙ stop-at _ _ (refused-by 6 _ _ _ (c .before .before .check-boundaries .ensures) (c .enum-told6 .given .1)))
+returns-3 c =
+    sym (after-cell-length (c .before .before .before) ∙ stop-at _ _ (refused-by 6 _ _ _ (c .before .before .check-boundaries .ensures) (c .enum-told6 .given .1)))
 
 check-boundaries-requires-2 : tie.Need-check-boundaries-requires-2
 check-boundaries-requires-2 c κs = search needs
@@ -97,7 +107,8 @@ enum-told-8 : tie.Need-enum-told-8
 enum-told-8 c = search needs
 
 returns-4 : tie.Need-returns-4
-returns-4 c = sym (after-held (c .before .before .before) ∙ stop-at _ _ (refused-by 6 _ _ _ (c .before .before .check-boundaries2 .ensures) (c .enum-told8 .given .1)))
+returns-4 c =
+    sym (after-held (c .before .before .before) ∙ stop-at _ _ (refused-by 6 _ _ _ (c .before .before .check-boundaries2 .ensures) (c .enum-told8 .given .1)))
 
 check-cells-requires : tie.Need-check-cells-requires
 check-cells-requires c κs =
@@ -111,7 +122,8 @@ enum-told-10 : tie.Need-enum-told-10
 enum-told-10 c = search needs
 
 returns-5 : tie.Need-returns-5
-returns-5 c = sym (after-given (c .before .before .before) ∙ stop-at _ _ (refused-by 7 _ _ _ (c .before .before .check-cells .ensures) (c .enum-told10 .given .1)))
+returns-5 c =
+    sym (after-given (c .before .before .before) ∙ stop-at _ _ (refused-by 7 _ _ _ (c .before .before .check-cells .ensures) (c .enum-told10 .given .1)))
 
 element-copy-out-check-carried : tie.Need-element-copy-out-check-carried
 element-copy-out-check-carried c = search needs
@@ -138,7 +150,8 @@ enum-told-12 : tie.Need-enum-told-12
 enum-told-12 c = search needs
 
 returns-6 : tie.Need-returns-6
-returns-6 c = sym (after-cells (c .before .before .before) ∙ stop-at _ _ (refused-by 8 _ _ _ (c .before .before .check-carried .ensures) (c .enum-told12 .given .1)))
+returns-6 c =
+    sym (after-cells (c .before .before .before) ∙ stop-at _ _ (refused-by 8 _ _ _ (c .before .before .check-carried .ensures) (c .enum-told12 .given .1)))
 
 check-ledger-requires : tie.Need-check-ledger-requires
 check-ledger-requires c κs = search needs

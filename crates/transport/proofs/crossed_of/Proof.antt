@@ -3,30 +3,31 @@ use mathlib.Core.Path.{_≡_, refl, sym, ap, _∙_}
 use denote.Ref.{now}
 use Prim.Native.Nat.{ℕ, _+_, _-_, _*_, _≤_, _<_}
 use native.Mathlib.Omega.{arith}
-use lib.IntN.{ℤ, pos, negℤ}
-use lib.ListN.{length, getD}
+use lib.ListN.{length}
 use mir.Facts.{toZ-ofZ, fits-below}
 use borrow.Author.Needs.{sfits-of}
-use Rattle.numbers.specs.Signed.{positive}
 use Rattle.mass.specs.Transport.{Columns, rightwards}
 use Rattle.mass.proofs.TransportLaws.{ready-same, leftwards-same, right-share-same, rightwards-next}
+use Rattle.reach.specs.Reach.{leftEnd, rightEnd}
 use Rattle.transport.specs.Ranges.{columnsWith}
 use borrow.Author.Needs.{needs}
 use Rattle.transport.proofs.crossed_of.Statement.{statement}
 use Rattle.transport.proofs.crossed_of.Tie as tie
 
 abbrev col : tie.Start → Columns
-col s = columnsWith (now (s .args .m)) (now (s .args .b)) (now (s .args .c)) (s .args .left) (s .args .right)
+col s = columnsWith (now (s .args .m)) (now (s .args .b)) (now (s .args .c)) (s .args .t4)
 
-left-in : (c : tie.After-right-part) → c .right-part .result * c .before .before .before .before .args .left ≡ col (c .before .before .before .before) .leftIn
+left-in : (c : tie.After-right-part) →
+    c .right-part .result * leftEnd (c .before .before .before .before .args .t4) .concentration ≡ col (c .before .before .before .before) .leftIn
 left-in c =
-    ap (λ (k : ℕ). k * c .before .before .before .before .args .left)
+    ap (λ (k : ℕ). k * leftEnd (c .before .before .before .before .args .t4) .concentration)
     (rw (toZ-ofZ (sfits-of (c .before .right-part-arg .given))) at (c .right-part .ensures))
 
 right-in : (c : tie.After-left-part) →
-    c .left-part .result * c .before .before .before .before .before .before .args .right ≡ col (c .before .before .before .before .before .before) .rightIn
+    c .left-part .result * rightEnd (c .before .before .before .before .before .before .args .t4) .concentration
+    ≡ col (c .before .before .before .before .before .before) .rightIn
 right-in c =
-    ap (λ (k : ℕ). k * c .before .before .before .before .before .before .args .right)
+    ap (λ (k : ℕ). k * rightEnd (c .before .before .before .before .before .before .args .t4) .concentration)
     (rw (toZ-ofZ (sfits-of (c .before .left-part-arg .given))) at (c .left-part .ensures))
 
 shared-slice-copy-out-right-part : tie.Need-shared-slice-copy-out-right-part
@@ -34,6 +35,9 @@ shared-slice-copy-out-right-part c = omega (arith, c .before .before .pre .0 .ea
 
 right-part-requires : tie.Need-right-part-requires
 right-part-requires c κs = search needs
+
+element-copy-out-left-in : tie.Need-element-copy-out-left-in
+element-copy-out-left-in c = search needs
 
 mul-left-in : tie.Need-mul-left-in
 mul-left-in c = rw (left-in c) (fits-below tt (c .before .before .before .before .pre .0 .entering))
@@ -46,6 +50,9 @@ shared-slice-copy-out-left-part c = omega (arith, c .before .before .before .bef
 
 left-part-requires : tie.Need-left-part-requires
 left-part-requires c κs = search needs
+
+element-copy-out-right-in : tie.Need-element-copy-out-right-in
+element-copy-out-right-in c = search needs
 
 mul-right-in : tie.Need-mul-right-in
 mul-right-in c = rw (right-in c) (fits-below tt (c .before .before .before .before .before .before .pre .0 .each 0 .entering))
@@ -74,10 +81,10 @@ returns c =
       left-out = (rw (right-in (c .before .before)) at (c .before .leaving .ensures .0)) ∙ leftwards-same _ _ _ _ 0 (x .leftIn) _ refl 0 refl;
       right-in = right-in (c .before .before);
       right-out =
-          (rw (right-in (c .before .before)) at (c .leaving2 .ensures .1 (omega arith)))
-          ∙ right-share-same _ _ _ _ 0 (x .leftIn) (x .rightIn) refl (n - 1) refl
-          ∙ sym (rightwards-next x (n - 1))
-          ∙ ap (rightwards x) last;
+        (rw (right-in (c .before .before)) at (c .leaving2 .ensures .1 (omega arith)))
+        ∙ right-share-same _ _ _ _ 0 (x .leftIn) (x .rightIn) refl (n - 1) refl
+        ∙ sym (rightwards-next x (n - 1))
+        ∙ ap (rightwards x) last;
     }
 
 pub crossed-of-spec : {M : Type 1} → statement M
@@ -86,10 +93,12 @@ crossed-of-spec =
     (tie.spec
     shared-slice-copy-out-right-part
     right-part-requires
+    element-copy-out-left-in
     mul-left-in
     mul-left-part
     shared-slice-copy-out-left-part
     left-part-requires
+    element-copy-out-right-in
     mul-right-in
     leaving-requires
     sub-leaving

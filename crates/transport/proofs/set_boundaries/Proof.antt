@@ -28,7 +28,7 @@ told c = c .before .before .before .before
 
 abbrev reach : tie.Start → Reach
 reach s =
-    reachOf (now (s .args .z)) (now (s .args .h)) (now (s .args .q)) (now (s .args .m)) (now (s .args .b)) (now (s .args .c)) (s .args .x) (s .args .t8) (s .args .ledger)
+    reachOf (now (s .args .z)) (now (s .args .h)) (now (s .args .q)) (now (s .args .m)) (now (s .args .b)) (now (s .args .c)) (s .args .x) (s .args .ends) (s .args .ledger)
 
 passed : (c : tie.After-enum-told) → firstRefusal (recordGrounds (reach (start c)) (start c .args .given)) ≡ Pass
 passed c = sym (c .before .before .check-record .ensures) ∙ c .enum-told .given .1
@@ -61,10 +61,10 @@ entering c =
 
 answered-by : (c : tie.After-refused) →
     let s = entry (c .before .before .before) .args in
-    c .refused .result ≡ answer (c .before .enum-told2 .given .0 .0) (s .t8) (s .ledger)
+    c .refused .result ≡ answer (c .before .enum-told2 .given .0 .0) (s .ends) (s .ledger)
 answered-by c =
     let s = entry (c .before .before .before) .args in
-    c .refused .ensures ∙ ap (λ k. answer (numberOf k) (s .t8) (s .ledger)) (c .before .enum-told2 .given .1)
+    c .refused .ensures ∙ ap (λ k. answer (numberOf k) (s .ends) (s .ledger)) (c .before .enum-told2 .given .1)
 
 check-record-requires : tie.Need-check-record-requires
 check-record-requires c κs = search needs
@@ -99,14 +99,8 @@ returns c =
       ledger-is = ap (λ r. r .ledger) a;
       mass-is = refl;
       base-is = refl;
-      carried-is = refl;
+      carried-is = refl
     })
-
-element-copy-out-crossed-of : tie.Need-element-copy-out-crossed-of
-element-copy-out-crossed-of c = search needs
-
-element-copy-out-crossed-of-2 : tie.Need-element-copy-out-crossed-of-2
-element-copy-out-crossed-of-2 c = search needs
 
 crossed-of-requires : tie.Need-crossed-of-requires
 crossed-of-requires c κs =
@@ -173,7 +167,7 @@ returns-3 c =
       ledger-is = q .1 ∙ booked x;
       mass-is = d .commit .ensures .0 ∙ ap movedMass (sym (entering x));
       base-is = d .commit .ensures .1 .0;
-      carried-is = d .commit .ensures .1 .1;
+      carried-is = d .commit .ensures .1 .1
     })
 
 pub set-boundaries-spec : {M : Type 1} → statement M
@@ -188,8 +182,6 @@ set-boundaries-spec =
     same-length-2
     same-length-3
     returns
-    element-copy-out-crossed-of
-    element-copy-out-crossed-of-2
     crossed-of-requires
     enter-requires
     enum-known-next

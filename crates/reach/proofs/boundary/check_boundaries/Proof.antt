@@ -27,12 +27,14 @@ boundary-fits-requires-2 c κs = search needs
 returns-2 : tie.Need-returns-2
 unfolding boundariesFit
 returns-2 c =
-    refuses 6 (on _ _ (sym (c .before .before .before .before .boundary-fits .ensures) ∙ not-false _ (c .before .before .before .if1 .left)) (off _ _ (sym (c .before .boundary-fits2 .ensures) ∙ not-true _ (c .if2 .taken))))
+    refuses 6 (on _ _ (sym (c .before .before .before .before .boundary-fits .ensures) ∙ not-false _ (c .before .before .before .if1 .left))
+    (off _ _ (sym (c .before .boundary-fits2 .ensures) ∙ not-true _ (c .if2 .taken))))
 
 returns-3 : tie.Need-returns-3
 unfolding boundariesFit
 returns-3 c =
-    passes 6 (on _ _ (sym (c .before .before .before .before .boundary-fits .ensures) ∙ not-false _ (c .before .before .before .if1 .left)) (only _ ∙ sym (c .before .boundary-fits2 .ensures) ∙ not-false _ (c .if2 .left)))
+    passes 6 (on _ _ (sym (c .before .before .before .before .boundary-fits .ensures) ∙ not-false _ (c .before .before .before .if1 .left))
+    (only _ ∙ sym (c .before .boundary-fits2 .ensures) ∙ not-false _ (c .if2 .left)))
 
 pub check-boundaries-spec : {M : Type 1} → statement M
 check-boundaries-spec =

@@ -29,12 +29,14 @@ magnitude-requires c κs = search needs
 returns-3 : tie.Need-returns-3
 unfolding fedFits
 returns-3 c =
-    sym (on _ _ (le-leb _ _ (c .before .before .before .if1 .left)) (on _ _ (le-leb _ _ (c .before .before .if2 .left)) (off _ _ (lt-leb _ _ (rw (size (c .before)) at (c .if3 .taken))))))
+    sym (on _ _ (le-leb _ _ (c .before .before .before .if1 .left)) (on _ _ (le-leb _ _ (c .before .before .if2 .left))
+    (off _ _ (lt-leb _ _ (rw (size (c .before)) at (c .if3 .taken))))))
 
 returns-4 : tie.Need-returns-4
 unfolding fedFits
 returns-4 c =
-    sym (on _ _ (le-leb _ _ (c .before .before .before .if1 .left)) (on _ _ (le-leb _ _ (c .before .before .if2 .left)) (on _ _ (le-leb _ _ (rw (size (c .before)) at (c .if3 .left))) (only _))))
+    sym (on _ _ (le-leb _ _ (c .before .before .before .if1 .left)) (on _ _ (le-leb _ _ (c .before .before .if2 .left))
+    (on _ _ (le-leb _ _ (rw (size (c .before)) at (c .if3 .left))) (only _))))
 
 pub fed-fits-spec : {M : Type 1} → statement M
 fed-fits-spec =

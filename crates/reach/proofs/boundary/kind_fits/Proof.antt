@@ -19,14 +19,18 @@ open-fits-requires c κs = search needs
 
 returns-2 : tie.Need-returns-2
 unfolding kindFits
-returns-2 c = rw (ne-eqb _ _ (c .before .before .if1 .left), eq-eqb _ _ (c .before .if2 .taken)) (rw (toZ-ofZ (c .before .before .before .fits .discharge)) at (c .open-fits .ensures))
+returns-2 c =
+    rw (ne-eqb _ _ (c .before .before .if1 .left), eq-eqb _ _ (c .before .if2 .taken))
+    (rw (toZ-ofZ (c .before .before .before .fits .discharge)) at (c .open-fits .ensures))
 
 fed-fits-requires : tie.Need-fed-fits-requires
 fed-fits-requires c κs = search needs
 
 returns-3 : tie.Need-returns-3
 unfolding kindFits
-returns-3 c = rw (ne-eqb _ _ (c .before .before .before .if1 .left), ne-eqb _ _ (c .before .before .if2 .left), eq-eqb _ _ (c .before .if3 .taken)) (rw (toZ-ofZ (c .before .before .before .before .fits .discharge)) at (c .fed-fits .ensures))
+returns-3 c =
+    rw (ne-eqb _ _ (c .before .before .before .if1 .left), ne-eqb _ _ (c .before .before .if2 .left), eq-eqb _ _ (c .before .if3 .taken))
+    (rw (toZ-ofZ (c .before .before .before .before .fits .discharge)) at (c .fed-fits .ensures))
 
 returns-4 : tie.Need-returns-4
 unfolding kindFits

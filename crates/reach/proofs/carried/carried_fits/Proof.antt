@@ -85,14 +85,16 @@ add-if3-4 c = search needs
 
 returns-3 : tie.Need-returns-3
 returns-3 c =
-    sym (tests (c .before .before .before) ∙ on _ _ (le-leb _ _ (c .before .before .if1 .left)) (on _ _ (le-leb _ _ (c .before .if2 .left)) (off _ _ (ne-eqb _ _ (c .if3 .taken)))))
+    sym (tests (c .before .before .before) ∙ on _ _ (le-leb _ _ (c .before .before .if1 .left)) (on _ _ (le-leb _ _ (c .before .if2 .left))
+    (off _ _ (ne-eqb _ _ (c .if3 .taken)))))
 
 add-result : tie.Need-add-result
 add-result c = search needs
 
 returns-4 : tie.Need-returns-4
 returns-4 c =
-    sym (tests (c .before .before .before) ∙ on _ _ (le-leb _ _ (c .before .before .if1 .left)) (on _ _ (le-leb _ _ (c .before .if2 .left)) (on _ _ (eq-eqb _ _ (c .if3 .left)) (only _))))
+    sym (tests (c .before .before .before) ∙ on _ _ (le-leb _ _ (c .before .before .if1 .left)) (on _ _ (le-leb _ _ (c .before .if2 .left))
+    (on _ _ (eq-eqb _ _ (c .if3 .left)) (only _))))
 
 pub carried-fits-spec : {M : Type 1} → statement M
 carried-fits-spec =

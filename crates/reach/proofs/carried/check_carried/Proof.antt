@@ -13,14 +13,17 @@ use Rattle.reach.proofs.GroundsLaws.{passes, refuses, passed, refused-b
 use Rattle.reach.proofs.carried.check_carried.Statement.{statement}
 use Rattle.reach.proofs.carried.check_carried.Tie as tie
 
-cells-fit : (c : tie.After-enum-told) → (let s = c .before .before .before .before .before .args in carriedCellsFit (now (s .h)) (now (s .b)) (now (s .c)) ≡ true)
+cells-fit : (c : tie.After-enum-told) →
+    (let s = c .before .before .before .before .before .args in carriedCellsFit (now (s .h)) (now (s .b)) (now (s .c)) ≡ true)
 cells-fit c = passed 8 _ _ (c .before .before .check-carried-cells .ensures) (c .enum-told .given .1)
 
-left-is : (c : tie.After-shut-fits) → (let s = c .before .before .before .before .before .before .before .args in c .shut-fits .result ≡ shutFits (s .left-kind) (getD (now (s .c)) 0 (pos 0)))
+left-is : (c : tie.After-shut-fits) →
+    (let s = c .before .before .before .before .before .before .before .args in c .shut-fits .result ≡ shutFits (s .left-kind) (getD (now (s .c)) 0 (pos 0)))
 left-is c = rw (toZ-ofZ (sfits-of (c .before .shut-fits-arg .given))) at (c .shut-fits .ensures)
 
 right-is : (c : tie.After-shut-fits2) →
-    (let s = c .before .before .before .before .before .before .before .before .before .before .args in c .shut-fits2 .result ≡ shutFits (s .right-kind) (getD (now (s .c)) (length (now (s .h))) (pos 0)))
+    (let s = c .before .before .before .before .before .before .before .before .before .before .args in
+    c .shut-fits2 .result ≡ shutFits (s .right-kind) (getD (now (s .c)) (length (now (s .h))) (pos 0)))
 right-is c = rw (toZ-ofZ (sfits-of (c .before .shut-fits-arg2 .given))) at (c .shut-fits2 .ensures)
 
 check-carried-cells-requires : tie.Need-check-carried-cells-requires
@@ -58,13 +61,15 @@ shut-fits-requires-2 c κs = search needs
 returns-3 : tie.Need-returns-3
 unfolding carriedFit
 returns-3 c =
-    refuses 8 (on _ _ (cells-fit (c .before .before .before .before .before .before)) (on _ _ (sym (left-is (c .before .before .before .before)) ∙ not-false _ (c .before .before .before .if1 .left))
+    refuses 8 (on _ _ (cells-fit (c .before .before .before .before .before .before))
+    (on _ _ (sym (left-is (c .before .before .before .before)) ∙ not-false _ (c .before .before .before .if1 .left))
     (off _ _ (sym (right-is (c .before)) ∙ not-true _ (c .if2 .taken)))))
 
 returns-4 : tie.Need-returns-4
 unfolding carriedFit
 returns-4 c =
-    passes 8 (on _ _ (cells-fit (c .before .before .before .before .before .before)) (on _ _ (sym (left-is (c .before .before .before .before)) ∙ not-false _ (c .before .before .before .if1 .left))
+    passes 8 (on _ _ (cells-fit (c .before .before .before .before .before .before))
+    (on _ _ (sym (left-is (c .before .before .before .before)) ∙ not-false _ (c .before .before .before .if1 .left))
     (only _ ∙ sym (right-is (c .before)) ∙ not-false _ (c .if2 .left))))
 
 pub check-carried-spec : {M : Type 1} → statement M

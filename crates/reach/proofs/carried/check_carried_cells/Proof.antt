@@ -77,7 +77,8 @@ carried-fits-requires c κs =
 returns : tie.Need-returns Inv-loop μ-loop
 unfolding carriedCellsFit
 returns c =
-    refuses 8 (all-fails _ _ (c .before .before .before .before .before .before .before .loop .i) (search needs) (sym (cell-is (c .before)) ∙ not-true _ (c .if1 .taken)))
+    refuses 8 (all-fails _ _ (c .before .before .before .before .before .before .before .loop .i) (search needs)
+    (sym (cell-is (c .before)) ∙ not-true _ (c .if1 .taken)))
 
 add-i : tie.Need-add-i Inv-loop μ-loop
 add-i c = search needs

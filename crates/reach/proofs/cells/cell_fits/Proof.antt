@@ -1,9 +1,16 @@
 -- `reach::cells::cell_fits` meets its contract. Assumes nothing.
-use mathlib.Core.Path.{_≡_, sym}
+use mathlib.Core.Path.{_≡_, refl, sym, _∙_}
+use mathlib.Core.List.{[], _∷_}
+use Prim.Native.Nat.{ℕ, _*_}
+use lib.Dec.{leb}
+use lib.ListN.{drop}
 use lib.IntN.{natAbs}
 use mir.Facts.{toZ-ofZ}
 use borrow.Author.Tests.{le-leb, lt-leb}
+use Rattle.numbers.specs.Index.{allOf}
 use Rattle.numbers.proofs.IndexLaws.{on, off, only}
+use Rattle.flux.specs.Limits.{depthMost, velocityMost, bedMost}
+use Rattle.reach.specs.Limits.{concentrationMost}
 use Rattle.reach.specs.Grounds.{cellFits}
 use borrow.Author.Needs.{needs}
 use Rattle.reach.proofs.cells.cell_fits.Statement.{statement}
@@ -15,6 +22,33 @@ bed-size c = rw (toZ-ofZ (c .before .fits .z)) at (c .magnitude .ensures)
 discharge-size : (c : tie.After-magnitude2) → c .magnitude2 .result ≡ natAbs (c .before .before .before .before .args .q)
 discharge-size c = rw (toZ-ofZ (c .before .before .before .before .fits .q)) at (c .magnitude2 .ensures)
 
+-- the first k tests hold, so the rest decide
+abbrev Rest : ℕ → tie.Start → Type 0
+Rest k s =
+    let a = s .args in
+    cellFits (a .z) (a .h) (a .q) (a .m) (a .b)
+    ≡ allOf
+    (drop k
+    (leb (natAbs (a .z)) bedMost
+    ∷ leb (a .h) depthMost
+    ∷ leb (natAbs (a .q)) (velocityMost * a .h)
+    ∷ leb (a .b) depthMost
+    ∷ leb (a .m) (concentrationMost * a .b)
+    ∷ []))
+
+after-1 : (c : tie.Else1) → Rest 1 (c .before .before)
+unfolding cellFits
+after-1 c = on _ _ (le-leb _ _ (rw (bed-size (c .before)) at (c .if1 .left))) refl
+
+after-2 : (c : tie.Else2) → Rest 2 (c .before .before .before)
+after-2 c = after-1 (c .before) ∙ on _ _ (le-leb _ _ (c .if2 .left)) refl
+
+after-3 : (c : tie.Else3) → Rest 3 (c .before .before .before .before .before)
+after-3 c = after-2 (c .before .before) ∙ on _ _ (le-leb _ _ (rw (discharge-size (c .before)) at (c .if3 .left))) refl
+
+after-4 : (c : tie.Else4) → Rest 4 (c .before .before .before .before .before .before)
+after-4 c = after-3 (c .before) ∙ on _ _ (le-leb _ _ (c .if4 .left)) refl
+
 magnitude-requires : tie.Need-magnitude-requires
 magnitude-requires c κs = search needs
 
@@ -23,9 +57,7 @@ unfolding cellFits
 returns c = sym (off _ _ (lt-leb _ _ (rw (bed-size (c .before)) at (c .if1 .taken))))
 
 returns-2 : tie.Need-returns-2
-unfolding cellFits
-returns-2 c =
-    sym (on _ _ (le-leb _ _ (rw (bed-size (c .before .before)) at (c .before .if1 .left))) (off _ _ (lt-leb _ _ (c .if2 .taken))))
+returns-2 c = sym (after-1 (c .before) ∙ off _ _ (lt-leb _ _ (c .if2 .taken)))
 
 mul-if3 : tie.Need-mul-if3
 mul-if3 c = search needs
@@ -34,22 +66,16 @@ magnitude-requires-2 : tie.Need-magnitude-requires-2
 magnitude-requires-2 c κs = search needs
 
 returns-3 : tie.Need-returns-3
-unfolding cellFits
-returns-3 c =
-    sym (on _ _ (le-leb _ _ (rw (bed-size (c .before .before .before .before)) at (c .before .before .before .if1 .left))) (on _ _ (le-leb _ _ (c .before .before .if2 .left)) (off _ _ (lt-leb _ _ (rw (discharge-size (c .before)) at (c .if3 .taken))))))
+returns-3 c = sym (after-2 (c .before .before) ∙ off _ _ (lt-leb _ _ (rw (discharge-size (c .before)) at (c .if3 .taken))))
 
 returns-4 : tie.Need-returns-4
-unfolding cellFits
-returns-4 c =
-    sym (on _ _ (le-leb _ _ (rw (bed-size (c .before .before .before .before .before)) at (c .before .before .before .before .if1 .left))) (on _ _ (le-leb _ _ (c .before .before .before .if2 .left)) (on _ _ (le-leb _ _ (rw (discharge-size (c .before .before)) at (c .before .if3 .left))) (off _ _ (lt-leb _ _ (c .if4 .taken))))))
+returns-4 c = sym (after-3 (c .before) ∙ off _ _ (lt-leb _ _ (c .if4 .taken)))
 
 mul-result : tie.Need-mul-result
 mul-result c = search needs
 
 returns-5 : tie.Need-returns-5
-unfolding cellFits
-returns-5 c =
-    sym (on _ _ (le-leb _ _ (rw (bed-size (c .before .before .before .before .before)) at (c .before .before .before .before .if1 .left))) (on _ _ (le-leb _ _ (c .before .before .before .if2 .left)) (on _ _ (le-leb _ _ (rw (discharge-size (c .before .before)) at (c .before .if3 .left))) (on _ _ (le-leb _ _ (c .if4 .left)) (only _)))))
+returns-5 c = sym (after-4 c ∙ only _)
 
 pub cell-fits-spec : {M : Type 1} → statement M
 cell-fits-spec =

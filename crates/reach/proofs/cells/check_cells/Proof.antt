@@ -75,7 +75,8 @@ cell-fits-requires c κs = search needs
 returns : tie.Need-returns Inv-loop μ-loop
 unfolding cellsFit
 returns c =
-    refuses 7 (all-fails _ _ (c .before .before .before .before .before .before .before .before .loop .i) (search needs) (sym (cell-is (c .before)) ∙ not-true _ (c .if1 .taken)))
+    refuses 7 (all-fails _ _ (c .before .before .before .before .before .before .before .before .loop .i) (search needs)
+    (sym (cell-is (c .before)) ∙ not-true _ (c .if1 .taken)))
 
 add-i : tie.Need-add-i Inv-loop μ-loop
 add-i c = search needs

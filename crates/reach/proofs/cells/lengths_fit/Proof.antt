@@ -1,47 +1,68 @@
 -- `reach::cells::lengths_fit` meets its contract. Assumes nothing.
-use mathlib.Core.Path.{sym}
+use mathlib.Core.Path.{_≡_, refl, sym, _∙_}
+use mathlib.Core.List.{[], _∷_}
+use Prim.Native.Nat.{ℕ, _+_}
+use lib.Dec.{leb, eqb}
+use lib.ListN.{drop}
 use borrow.Author.Tests.{le-leb, lt-leb, eq-eqb, ne-eqb}
+use Rattle.numbers.specs.Index.{allOf}
 use Rattle.numbers.proofs.IndexLaws.{on, off, only}
+use Rattle.reach.specs.Limits.{cellsMost}
 use Rattle.reach.specs.Grounds.{lengthsFit}
 use borrow.Author.Needs.{needs}
 use Rattle.reach.proofs.cells.lengths_fit.Statement.{statement}
 use Rattle.reach.proofs.cells.lengths_fit.Tie as tie
+
+-- the first k tests hold, so the rest decide
+abbrev Rest : ℕ → tie.Start → Type 0
+Rest k s =
+    let a = s .args in
+    lengthsFit (a .z) (a .h) (a .q) (a .m) (a .b) (a .c)
+    ≡ allOf (drop k (leb 1 (a .z) ∷ leb (a .z) cellsMost ∷ eqb (a .h) (a .z) ∷ eqb (a .q) (a .z) ∷ eqb (a .m) (a .z) ∷ eqb (a .b) (a .z) ∷ eqb (a .c) (a .z + 1) ∷ []))
+
+after-1 : (c : tie.Else1) → Rest 1 (c .before)
+unfolding lengthsFit
+after-1 c = on _ _ (le-leb _ _ (c .if1 .left)) refl
+
+after-2 : (c : tie.Else2) → Rest 2 (c .before .before)
+after-2 c = after-1 (c .before) ∙ on _ _ (le-leb _ _ (c .if2 .left)) refl
+
+after-3 : (c : tie.Else3) → Rest 3 (c .before .before .before)
+after-3 c = after-2 (c .before) ∙ on _ _ (eq-eqb _ _ (c .if3 .left)) refl
+
+after-4 : (c : tie.Else4) → Rest 4 (c .before .before .before .before)
+after-4 c = after-3 (c .before) ∙ on _ _ (eq-eqb _ _ (c .if4 .left)) refl
+
+after-5 : (c : tie.Else5) → Rest 5 (c .before .before .before .before .before)
+after-5 c = after-4 (c .before) ∙ on _ _ (eq-eqb _ _ (c .if5 .left)) refl
+
+after-6 : (c : tie.Else6) → Rest 6 (c .before .before .before .before .before .before)
+after-6 c = after-5 (c .before) ∙ on _ _ (eq-eqb _ _ (c .if6 .left)) refl
 
 returns : tie.Need-returns
 unfolding lengthsFit
 returns c = sym (off _ _ (lt-leb _ _ (c .if1 .taken)))
 
 returns-2 : tie.Need-returns-2
-unfolding lengthsFit
-returns-2 c = sym (on _ _ (le-leb _ _ (c .before .if1 .left)) (off _ _ (lt-leb _ _ (c .if2 .taken))))
+returns-2 c = sym (after-1 (c .before) ∙ off _ _ (lt-leb _ _ (c .if2 .taken)))
 
 returns-3 : tie.Need-returns-3
-unfolding lengthsFit
-returns-3 c =
-    sym (on _ _ (le-leb _ _ (c .before .before .if1 .left)) (on _ _ (le-leb _ _ (c .before .if2 .left)) (off _ _ (ne-eqb _ _ (c .if3 .taken)))))
+returns-3 c = sym (after-2 (c .before) ∙ off _ _ (ne-eqb _ _ (c .if3 .taken)))
 
 returns-4 : tie.Need-returns-4
-unfolding lengthsFit
-returns-4 c =
-    sym (on _ _ (le-leb _ _ (c .before .before .before .if1 .left)) (on _ _ (le-leb _ _ (c .before .before .if2 .left)) (on _ _ (eq-eqb _ _ (c .before .if3 .left)) (off _ _ (ne-eqb _ _ (c .if4 .taken))))))
+returns-4 c = sym (after-3 (c .before) ∙ off _ _ (ne-eqb _ _ (c .if4 .taken)))
 
 returns-5 : tie.Need-returns-5
-unfolding lengthsFit
-returns-5 c =
-    sym (on _ _ (le-leb _ _ (c .before .before .before .before .if1 .left)) (on _ _ (le-leb _ _ (c .before .before .before .if2 .left)) (on _ _ (eq-eqb _ _ (c .before .before .if3 .left)) (on _ _ (eq-eqb _ _ (c .before .if4 .left)) (off _ _ (ne-eqb _ _ (c .if5 .taken)))))))
+returns-5 c = sym (after-4 (c .before) ∙ off _ _ (ne-eqb _ _ (c .if5 .taken)))
 
 returns-6 : tie.Need-returns-6
-unfolding lengthsFit
-returns-6 c =
-    sym (on _ _ (le-leb _ _ (c .before .before .before .before .before .if1 .left)) (on _ _ (le-leb _ _ (c .before .before .before .before .if2 .left)) (on _ _ (eq-eqb _ _ (c .before .before .before .if3 .left)) (on _ _ (eq-eqb _ _ (c .before .before .if4 .left)) (on _ _ (eq-eqb _ _ (c .before .if5 .left)) (off _ _ (ne-eqb _ _ (c .if6 .taken))))))))
+returns-6 c = sym (after-5 (c .before) ∙ off _ _ (ne-eqb _ _ (c .if6 .taken)))
 
 add-result : tie.Need-add-result
 add-result c = search needs
 
 returns-7 : tie.Need-returns-7
-unfolding lengthsFit
-returns-7 c =
-    sym (on _ _ (le-leb _ _ (c .before .before .before .before .before .if1 .left)) (on _ _ (le-leb _ _ (c .before .before .before .before .if2 .left)) (on _ _ (eq-eqb _ _ (c .before .before .before .if3 .left)) (on _ _ (eq-eqb _ _ (c .before .before .if4 .left)) (on _ _ (eq-eqb _ _ (c .before .if5 .left)) (on _ _ (eq-eqb _ _ (c .if6 .left)) (only _)))))))
+returns-7 c = sym (after-6 c ∙ only _)
 
 pub lengths-fit-spec : {M : Type 1} → statement M
 lengths-fit-spec =

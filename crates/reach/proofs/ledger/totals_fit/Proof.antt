@@ -22,7 +22,8 @@ returns-3 c =
 returns-4 : tie.Need-returns-4
 unfolding totalsFit
 returns-4 c =
-    sym (on _ _ (le-leb _ _ (c .before .before .before .before .before .if1 .left)) (on _ _ (le-leb _ _ (c .before .before .before .if2 .left)) (on _ _ (le-leb _ _ (c .before .if3 .left)) (only _))))
+    sym (on _ _ (le-leb _ _ (c .before .before .before .before .before .if1 .left)) (on _ _ (le-leb _ _ (c .before .before .before .if2 .left))
+    (on _ _ (le-leb _ _ (c .before .if3 .left)) (only _))))
 
 pub totals-fit-spec : {M : Type 1} → statement M
 totals-fit-spec = tie.close (tie.spec returns returns-2 returns-3 returns-4)
