@@ -14,5 +14,6 @@ pub record Flowing (h : ℕ) (q : ℤ) : Type 0 where
 -- of every cell
 pub record Columns (h : List ℕ) (q : List ℤ) : Type 0 where
   pub long : length q ≡ length h
+  -- far above any reach: a place fits its type
   pub few : length h ≤ 1_000_000
   pub each : (i : ℕ) → i < length h → Flowing (getD h i 0) (getD q i (pos 0))

@@ -16,6 +16,10 @@ pub wave-speed-pos : (h : ℕ) → 0 < h → 0 < waveSpeed h
 unfolding waveSpeed
 wave-speed-pos h l = square-root-greatest 1 _ (omega arith)
 
+pub wave-speed-dry : waveSpeed 0 ≡ 0
+unfolding waveSpeed
+wave-speed-dry = square-root-is 0 _ (lit≤ tt) (lit≤ tt)
+
 deepest : waveSpeed depthMost ≡ 7_670
 unfolding waveSpeed
 deepest = square-root-is 7_670 _ (lit≤ tt) (lit≤ tt)

@@ -1,4 +1,4 @@
--- The ranges that the fluxes are computed in (document 01, 'What a record holds' and 'Grounds for refusal').
+-- The limits of document 01, 'What a record holds' and 'Grounds for refusal', that more than one crate above uses.
 use Prim.Native.Nat.{ℕ}
 
 -- depth h, micrometres
@@ -12,6 +12,10 @@ velocityMost = 8_000
 -- size of a bed level z, micrometres
 abbrev pub bedMost : ℕ
 bedMost = 100_000_000
+
+-- concentration, micrograms per litre
+abbrev pub concentrationMost : ℕ
+concentrationMost = 500_000
 
 -- time step t, ms
 abbrev pub timeStepMost : ℕ

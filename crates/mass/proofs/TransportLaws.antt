@@ -10,11 +10,11 @@ use borrow.Author.Tests.{lt-ltb, le-ltb}
 use lib.IntN.{ℤ, pos, negℤ}
 use lib.ListN.{length, getD}
 use Rattle.numbers.specs.Index.{tabulate, sumBelow, sum}
-use Rattle.numbers.specs.Shares.{share, rest}
+use Rattle.numbers.specs.Shares.{share, shares, rest}
 use Rattle.numbers.specs.Signed.{positive}
 use Rattle.numbers.proofs.IndexLaws.{telescope, sum-tabulate, sum-by-index}
 use Rattle.numbers.proofs.SharesLaws.{floor-mono, floor-all, share-lo, share-hi, rest-lo, rest-hi}
-use Rattle.mass.specs.Transport.{Columns, columns, outRight, outLeft, rightShare, leftShare, rightwards, leftwards, movedCell, movedMass}
+use Rattle.mass.specs.Transport.{Columns, columns, outRight, outLeft, cellShares, rightShare, leftShare, rightwards, leftwards, movedCell, movedMass}
 use Rattle.mass.specs.Ranges.{Giving, ReadyAt, Ready, massMost}
 
 -- ---- two parts: the first share is a floor, and both together are one
@@ -41,9 +41,23 @@ module _ (s : Columns) where
   abbrev B : ℕ → ℕ
   B i = getD (s .base) i 0
 
+  pub right-share-is : (i : ℕ) → rightShare s i ≡ share (M i) (B i) 0 (outRight s i)
+  unfolding rightShare cellShares shares
+  right-share-is i = refl
+
+  pub left-share-is : (i : ℕ) → leftShare s i ≡ share (M i) (B i) (outRight s i) (outLeft s i)
+  unfolding leftShare cellShares shares
+  left-share-is i = ap (λ (P : ℕ). share (M i) (B i) P (outLeft s i)) (zero-add (outRight s i))
+
   pub shares-both : (i : ℕ) → rightShare s i + leftShare s i ≡ M i * (outRight s i + outLeft s i) / B i
-  unfolding rightShare leftShare
-  shares-both i = two-shares (M i) (B i) (outRight s i) (outLeft s i)
+  shares-both i = rw (right-share-is i, left-share-is i) (two-shares (M i) (B i) (outRight s i) (outLeft s i))
+
+  -- the paper's own words for the two shares
+  pub right-share-floor : (i : ℕ) → rightShare s i ≡ M i * outRight s i / B i
+  right-share-floor i = right-share-is i ∙ first-share (M i) (B i) (outRight s i)
+
+  pub left-share-floor : (i : ℕ) → leftShare s i ≡ M i * (outRight s i + outLeft s i) / B i - rightShare s i
+  left-share-floor i = omega (arith, shares-both i)
 
   pub rightwards-next : (i : ℕ) → rightwards s (i + 1) ≡ rightShare s i
   unfolding rightwards
@@ -110,17 +124,16 @@ module _ (s : Columns) (covered : (i : ℕ) → i < length (s .mass) → outRigh
       (right : lo * outLeft s (length (s .mass)) ≤ s .rightIn)
     where
       pub rightwards-lo : (i : ℕ) → i ≤ length (s .mass) → lo * inLeft s i ≤ rightwards s i
-      unfolding rightwards rightShare
+      unfolding rightwards
       rightwards-lo zero l = left
       rightwards-lo (suc i) l =
-          rw (← add-one i) (share-lo (getD (s .mass) i 0) lo (getD (s .base) i 0) 0 (outRight s i) (omega (arith, covered i l)) (held i l))
+          rw (← add-one i, right-share-is s i) (share-lo (getD (s .mass) i 0) lo (getD (s .base) i 0) 0 (outRight s i) (omega (arith, covered i l)) (held i l))
 
       pub leftwards-lo : (i : ℕ) → i ≤ length (s .mass) → lo * outLeft s i ≤ leftwards s i
-      unfolding leftShare
       leftwards-lo i l =
           ⊎-elim
           (λ e. rw (leftwards-end s i (omega arith), e) right)
-          (λ k. rw (leftwards-cell s i k) (share-lo (getD (s .mass) i 0) lo (getD (s .base) i 0) (outRight s i) (outLeft s i) (covered i k) (held i k)))
+          (λ k. rw (leftwards-cell s i k, left-share-is s i) (share-lo (getD (s .mass) i 0) lo (getD (s .base) i 0) (outRight s i) (outLeft s i) (covered i k) (held i k)))
           (eq-or-lt-of-le l)
 
       pub moved-lo :
@@ -141,17 +154,16 @@ module _ (s : Columns) (covered : (i : ℕ) → i < length (s .mass) → outRigh
       (right : s .rightIn ≤ hi * outLeft s (length (s .mass)))
     where
       pub rightwards-hi : (i : ℕ) → i ≤ length (s .mass) → rightwards s i ≤ hi * inLeft s i
-      unfolding rightwards rightShare
+      unfolding rightwards
       rightwards-hi zero l = left
       rightwards-hi (suc i) l =
-          rw (← add-one i) (share-hi (getD (s .mass) i 0) hi (getD (s .base) i 0) 0 (outRight s i) (held i l))
+          rw (← add-one i, right-share-is s i) (share-hi (getD (s .mass) i 0) hi (getD (s .base) i 0) 0 (outRight s i) (held i l))
 
       pub leftwards-hi : (i : ℕ) → i ≤ length (s .mass) → leftwards s i ≤ hi * outLeft s i
-      unfolding leftShare
       leftwards-hi i l =
           ⊎-elim
           (λ e. rw (leftwards-end s i (omega arith), e) right)
-          (λ k. rw (leftwards-cell s i k) (share-hi (getD (s .mass) i 0) hi (getD (s .base) i 0) (outRight s i) (outLeft s i) (held i k)))
+          (λ k. rw (leftwards-cell s i k, left-share-is s i) (share-hi (getD (s .mass) i 0) hi (getD (s .base) i 0) (outRight s i) (outLeft s i) (held i k)))
           (eq-or-lt-of-le l)
 
       pub moved-hi :
@@ -199,9 +211,9 @@ module _ (m m₀ b : List ℕ) (c : List ℤ) (x x₀ y : ℕ) (long : length m 
   }
 
   pub right-share-same : (j : ℕ) → getD m j 0 ≡ getD m₀ j 0 → rightShare (columns m b c x y) j ≡ rightShare (columns m₀ b c x₀ y) j
-  unfolding rightShare
+  unfolding rightShare cellShares
   right-share-same j e = rw e refl
 
   pub leftwards-same : (j : ℕ) → getD m j 0 ≡ getD m₀ j 0 → leftwards (columns m b c x y) j ≡ leftwards (columns m₀ b c x₀ y) j
-  unfolding leftwards leftShare
+  unfolding leftwards leftShare cellShares
   leftwards-same j e = rw (e, long) refl

@@ -4,12 +4,8 @@ use mathlib.Core.List.{List}
 use Prim.Native.Nat.{ℕ, _+_, _*_, _≤_, _<_}
 use lib.IntN.{ℤ}
 use lib.ListN.{length, getD}
-use Rattle.flux.specs.Limits.{depthMost}
+use Rattle.flux.specs.Limits.{depthMost, concentrationMost}
 use Rattle.mass.specs.Transport.{Columns, outRight, outLeft}
-
--- micrograms per litre
-abbrev pub concentrationMost : ℕ
-concentrationMost = 500_000
 
 -- the mass of a full cell at the highest concentration
 abbrev pub massMost : ℕ

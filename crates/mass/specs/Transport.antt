@@ -1,13 +1,13 @@
 -- Document 01, 'Settling', the transport step of report 4529: the mass (the paper's 'nutrient') that moves with the water carried since
--- the last one.
+-- the last transport.
 use mathlib.Core.Bool.{cond}
-use mathlib.Core.List.{List}
+use mathlib.Core.List.{List, [], _∷_}
 use Prim.Native.Nat.{ℕ, zero, suc, _+_}
 use lib.Dec.{ltb}
 use lib.IntN.{ℤ, pos, negℤ}
 use lib.ListN.{length, getD}
 use Rattle.numbers.specs.Index.{tabulate}
-use Rattle.numbers.specs.Shares.{share, rest}
+use Rattle.numbers.specs.Shares.{shares, rest}
 use Rattle.numbers.specs.Signed.{positive}
 
 -- mass and base depth of each cell, carried water of each interface, and the mass that enters over the left and the right boundary
@@ -28,12 +28,16 @@ outRight s i = positive (getD (s .carried) (i + 1) (pos 0))
 abbrev pub outLeft : Columns → ℕ → ℕ
 outLeft s i = positive (negℤ (getD (s .carried) i (pos 0)))
 
--- right share = floor(m·R/b); left share = floor(m·(R+L)/b) − right share; 0 if b = 0
+-- the shares of cell i by running floors: its parts are R, then L
+unfoldable pub cellShares : Columns → ℕ → List ℕ
+cellShares s i = shares (getD (s .mass) i 0) (getD (s .base) i 0) 0 (outRight s i ∷ outLeft s i ∷ [])
+
+-- right share = floor(m·R/b); left share = floor(m·(R+L)/b) − right share; 0 if b = 0 (`right-share-floor`, `left-share-floor`)
 unfoldable pub rightShare : Columns → ℕ → ℕ
-rightShare s i = share (getD (s .mass) i 0) (getD (s .base) i 0) 0 (outRight s i)
+rightShare s i = getD (cellShares s i) 0 0
 
 unfoldable pub leftShare : Columns → ℕ → ℕ
-leftShare s i = share (getD (s .mass) i 0) (getD (s .base) i 0) (outRight s i) (outLeft s i)
+leftShare s i = getD (cellShares s i) 1 0
 
 -- the mass that crosses interface i rightwards, and leftwards
 unfoldable pub rightwards : Columns → ℕ → ℕ

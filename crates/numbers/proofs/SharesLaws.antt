@@ -62,6 +62,10 @@ module _ (m : ℕ) where
       subst (λ (x : ℕ). x - m * P / suc b ≤ hi * k) (ap (λ (x : ℕ). m * x / suc b) e ∙ floor-whole (suc b) (zero-lt-suc b))
       (share-hi hi (suc b) P k l)
 
+  -- what gives all its water keeps nothing
+  pub rest-of-all : (hi b : ℕ) → m ≤ hi * b → rest m b b ≡ 0
+  rest-of-all hi b l = omega (arith, rest-hi hi b b 0 (omega arith) l)
+
   -- every share of a list of parts
   pub shares-lo : (lo b P : ℕ) (ps : List ℕ) → P + sum ps ≤ b → lo * b ≤ m → (k : ℕ) → k < length ps → lo * getD ps k 0 ≤ getD (shares m b P ps) k 0
   unfolding shares sum

@@ -11,8 +11,8 @@ use borrow.Author.Tests.{leb-true, eqb-true, le-leb, eq-eqb}
 use Rattle.numbers.specs.Signed.{positive}
 use Rattle.numbers.proofs.IndexLaws.{all-of, all-at, all-below, on, only}
 use Rattle.numbers.proofs.SignedLaws.{R, L, abs-parts}
-use Rattle.flux.specs.Limits.{depthMost, velocityMost, bedMost, cellLengthLeast, cellLengthMost}
-use Rattle.reach.specs.Limits.{cellsMost, concentrationMost, totalMost, wall, openEnd, fed}
+use Rattle.flux.specs.Limits.{depthMost, velocityMost, bedMost, concentrationMost, cellLengthLeast, cellLengthMost}
+use Rattle.reach.specs.Limits.{cellsMost, carriedMost, totalMost, wall, openEnd, fed}
 use Rattle.reach.specs.Reach.{Reach, cells, bedAt, depthAt, dischargeAt, massAt, baseAt, carriedAt, leftEnd, rightEnd}
 use Rattle.reach.specs.Grounds.{firstRefusal, recordGrounds, passOr, lengthsFit, cellLengthFits, wallFits, openFits, fedFits, kindFits, boundaryFits, boundariesFit, cellFits, cellsFit, carriedFits, shutFits, carriedCellsFit, carriedFit, totalsFit, ledgerFits}
 use Rattle.reach.specs.declared.boundary.Boundary.{Boundary}
@@ -125,8 +125,8 @@ cells-sound z h q m b e i l = cell-sound _ _ _ _ _ (all-at _ (length z) i e l)
 -- ---- 8
 
 pub record CarriedSound (h b : ℕ) (l r : ℤ) : Type 0 where
-  pub left : natAbs l ≤ depthMost
-  pub right : natAbs r ≤ depthMost
+  pub left : natAbs l ≤ carriedMost
+  pub right : natAbs r ≤ carriedMost
   pub balance : h + positive r + positive (negℤ l) ≡ b + positive l + positive (negℤ r)
   pub covered : positive r + positive (negℤ l) ≤ b
 

@@ -7,8 +7,8 @@ use lib.ListN.{length, getD}
 use lib.Dec.{leb, eqb}
 use Rattle.numbers.specs.Index.{allOf, allBelow}
 use Rattle.numbers.specs.Signed.{positive, eqℤ}
-use Rattle.flux.specs.Limits.{depthMost, velocityMost, bedMost, cellLengthLeast, cellLengthMost}
-use Rattle.reach.specs.Limits.{cellsMost, concentrationMost, totalMost, wall, openEnd, fed}
+use Rattle.flux.specs.Limits.{depthMost, velocityMost, bedMost, concentrationMost, cellLengthLeast, cellLengthMost}
+use Rattle.reach.specs.Limits.{cellsMost, carriedMost, totalMost, wall, openEnd, fed}
 use Rattle.reach.specs.Reach.{Reach, leftEnd, rightEnd}
 use Rattle.reach.specs.declared.boundary.Boundary.{Boundary}
 use Rattle.reach.specs.declared.ledger.Totals.{Totals}
@@ -96,8 +96,8 @@ cellsFit z h q m b =
 unfoldable pub carriedFits : (h b : ℕ) (l r : ℤ) → Bool
 carriedFits h b l r =
     allOf
-    (leb (natAbs l) depthMost
-    ∷ leb (natAbs r) depthMost
+    (leb (natAbs l) carriedMost
+    ∷ leb (natAbs r) carriedMost
     ∷ eqℤ (pos h) (pos b +ℤ l -ℤ r)
     ∷ leb (positive r + positive (negℤ l)) b
     ∷ [])

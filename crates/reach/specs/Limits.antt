@@ -1,13 +1,13 @@
--- Limits of a record (document 01, 'What a record holds'); those of depth, velocity, bed level and cell length are flux's.
+-- Limits of a record (document 01, 'What a record holds'); those of depth, velocity, bed level, concentration and cell length are flux's.
 use Prim.Native.Nat.{ℕ}
 
 -- cells of a reach
 abbrev pub cellsMost : ℕ
 cellsMost = 512
 
--- concentration, micrograms per litre
-abbrev pub concentrationMost : ℕ
-concentrationMost = 500_000
+-- size of the carried water c of an interface, micrometres
+abbrev pub carriedMost : ℕ
+carriedMost = 4_000_000
 
 -- each total of the ledger
 abbrev pub totalMost : ℕ

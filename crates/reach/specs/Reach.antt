@@ -1,23 +1,24 @@
 -- Document 01, 'What a record holds': the record of a reach as a call is given it, with the boundaries (the paper's 'ends') and the
 -- ledger (its 'book') that travel with it.
 use mathlib.Core.List.{List}
-use Prim.Native.Nat.{ℕ, _+_}
-use lib.IntN.{ℤ, pos, negℤ}
+use Prim.Native.Nat.{ℕ}
+use lib.IntN.{ℤ, pos}
 use lib.ListN.{length, getD}
-use Rattle.numbers.specs.Signed.{positive}
 use Rattle.reach.specs.declared.boundary.Boundary.{Boundary}
 use Rattle.reach.specs.declared.ledger.Ledger.{Ledger}
 
 pub record Reach : Type 0 where
-  -- of each cell: bed level z, depth h, discharge q, mass m (the paper's 'nutrient', in 'grains'), base depth b
+  -- of each cell: bed level z and depth h, micrometres; discharge q, depth times velocity, micrometres times mm/s; mass m, the paper's
+  -- 'nutrient', in its 'grains' (one micrometre of depth at one microgram per litre); base depth b, the depth at the last transport
   pub bed : List ℤ
   pub depth : List ℕ
   pub discharge : List ℤ
   pub mass : List ℕ
   pub base : List ℕ
-  -- of each interface: the water c carried over it since the last transport (the paper's 'settling'), positive rightwards
+  -- of each interface 0..n, interface i left of cell i: the water c carried over it since the last transport (the paper's 'settling'),
+  -- micrometres, positive rightwards
   pub carried : List ℤ
-  -- X
+  -- X, mm
   pub cellLength : ℕ
   -- the left and the right boundary
   pub ends : List Boundary
@@ -48,13 +49,6 @@ baseAt s i = getD (s .base) i 0
 
 abbrev pub carriedAt : Reach → ℕ → ℤ
 carriedAt s i = getD (s .carried) i (pos 0)
-
--- R = max(c(i+1), 0) and L = max(−c(i), 0): the water that left cell i over its right and its left
-abbrev pub outRight : Reach → ℕ → ℕ
-outRight s i = positive (carriedAt s (i + 1))
-
-abbrev pub outLeft : Reach → ℕ → ℕ
-outLeft s i = positive (negℤ (carriedAt s i))
 
 -- what stands for a boundary that is not there; never read of a pair
 abbrev pub noBoundary : Boundary

@@ -9,7 +9,7 @@ use numbers::signed::magnitude;
 pub struct Boundary {
     // 0 wall, 1 open, 2 fed
     pub kind: u32,
-    // always 0, as in a snapshot
+    // always 0: the paper's 'zero field' of an end
     pub reserved: u32,
     // micrometres
     pub depth: u64,

@@ -1,5 +1,4 @@
 -- Document 01, 'The greatest step'.
-use mathlib.Core.Path.{_≡_}
 use mathlib.Core.Bool.{cond}
 use mathlib.Core.List.{List}
 use Prim.Native.Nat.{ℕ, _+_}
@@ -31,13 +30,13 @@ unfoldable pub greatestPlace : Reach → ℕ
 greatestPlace s = fastestPlace (placeSpeed s) (cells s + 1)
 
 -- a refusal: its number, the boundaries and the ledger as they came, 0 in the other fields
-abbrev pub nothing : ℕ → List Boundary → Ledger → Greatest
-nothing n es k = record { refusal = n; ends = es; ledger = k; time = 0; place = 0 }
+abbrev pub refusedWith : ℕ → List Boundary → Ledger → Greatest
+refusedWith n es k = record { refusal = n; ends = es; ledger = k; time = 0; place = 0 }
 
 -- the answer, by what grounds 4 to 9 say
 abbrev pub greatestBy : Check → Reach → Greatest
 greatestBy Pass s = record { refusal = 0; ends = s .ends; ledger = s .ledger; time = greatestTime s; place = greatestPlace s }
-greatestBy (Refused n) s = nothing n (s .ends) (s .ledger)
+greatestBy (Refused n) s = refusedWith n (s .ends) (s .ledger)
 
 unfoldable pub greatest : Reach → Greatest
 greatest s = greatestBy (firstRefusal (recordGrounds s (s .ends))) s

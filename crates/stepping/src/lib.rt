@@ -3,7 +3,7 @@ ghost use mathlib.Core.Path.{_≡_};
 ghost use Rattle.cfl.specs.Ranges.{Flowing};
 ghost use Rattle.reach.specs.Reach.{reachOf};
 ghost use Rattle.reach.specs.Grounds.{numberOf};
-ghost use Rattle.stepping.specs.GreatestStep.{boundarySpeed, nothing, greatest};
+ghost use Rattle.stepping.specs.GreatestStep.{boundarySpeed, refusedWith, greatest};
 use cfl::fastest_of;
 use cfl::longest_step;
 use cfl::signal_speed;
@@ -36,7 +36,7 @@ pub fn boundary_speed(e: Boundary) -> u64
 }
 
 fn refused(k: Check, ends: [Boundary; 2], ledger: Ledger) -> Greatest
-    ensures { λ r. ⌜ r ≡ nothing (numberOf k) ends ledger ⌝ }
+    ensures { λ r. ⌜ r ≡ refusedWith (numberOf k) ends ledger ⌝ }
 {
     let Check::Refused(n) = k else {
         return Greatest {

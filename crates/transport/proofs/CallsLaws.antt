@@ -13,11 +13,11 @@ use lib.ListN.{length, getD, replicate, getD-replicate, length-replicate}
 use Rattle.numbers.specs.Signed.{positive}
 use Rattle.numbers.proofs.IndexLaws.{all-of, getD-tabulate, length-tabulate}
 use Rattle.numbers.proofs.SignedLaws.{abs-parts}
-use Rattle.flux.specs.Limits.{depthMost}
+use Rattle.flux.specs.Limits.{depthMost, concentrationMost}
 use Rattle.mass.specs.Transport.{Columns, columns, outRight, outLeft, rightwards, leftwards, movedCell, movedMass}
 use Rattle.mass.specs.Ranges.{ReadyAt, Ready, massMost}
 use Rattle.mass.proofs.TransportLaws.{conserved, moved-lo, moved-hi, inLeft, inRight, leftwards-small, rightwards-small, leftwards-end}
-use Rattle.reach.specs.Limits.{wall, concentrationMost}
+use Rattle.reach.specs.Limits.{wall}
 use Rattle.reach.specs.Reach.{Reach, cells, depthAt, baseAt, massAt, carriedAt, leftEnd, rightEnd}
 use Rattle.reach.specs.Grounds.{firstRefusal, recordGrounds, boundariesFit, ledgerFits, passOr}
 use Rattle.reach.specs.Outcome.{Outcome, outcome}

@@ -17,13 +17,14 @@ columnsWith m b c es =
     (positive (getD c 0 (pos 0)) * leftEnd es .concentration)
     (positive (negℤ (getD c (length m) (pos 0))) * rightEnd es .concentration)
 
--- the mass that crosses both boundaries, in and out, and that it is small
+-- the mass that crosses both boundaries, in and out
 pub record Crosses (s : Columns) (leftIn leftOut rightIn rightOut : ℕ) : Type 0 where
   pub left-in : leftIn ≡ s .leftIn
   pub left-out : leftOut ≡ leftwards s 0
   pub right-in : rightIn ≡ s .rightIn
   pub right-out : rightOut ≡ rightwards s (length (s .mass))
 
+-- and that none of it is more than a full cell holds
 pub record Small (leftIn leftOut rightIn rightOut : ℕ) : Type 0 where
   pub left-in : leftIn ≤ massMost
   pub left-out : leftOut ≤ massMost

@@ -9,8 +9,8 @@ use mir.Facts.{toZ-ofZ}
 use borrow.Author.Needs.{sfits-of}
 use Rattle.numbers.specs.Shares.{share}
 use Rattle.numbers.specs.Signed.{positive}
-use Rattle.mass.specs.Transport.{Columns, columns, outRight, outLeft, rightShare, leftShare}
-use Rattle.mass.proofs.TransportLaws.{leftwards-cell, leftwards-end}
+use Rattle.mass.specs.Transport.{Columns, columns, outRight, outLeft}
+use Rattle.mass.proofs.TransportLaws.{right-share-is, left-share-is, leftwards-cell, leftwards-end}
 use borrow.Author.Needs.{needs}
 use Rattle.mass.proofs.leaving.Statement.{statement}
 use Rattle.mass.proofs.leaving.Tie as tie
@@ -67,7 +67,6 @@ shares-of-requires c κs =
     record { deep = g .deep; rich = g .rich; covered = omega (arith, right-is c, left-is c, g .covered) }
 
 returns : tie.Need-returns
-unfolding rightShare leftShare
 returns c =
     let b = c .before in
     let s = entry b in
@@ -75,8 +74,8 @@ returns c =
     let i = s .args .i in
     let l = b .before .before .before .before .before .before .if1 .taken in
     let share-of = share (getD (x .mass) i 0) (getD (x .base) i 0) in (
-      c .shares-of .ensures .1 ∙ ap₂ share-of (right-is b) (left-is b) ∙ sym (leftwards-cell x i l),
-      λ _. c .shares-of .ensures .0 ∙ ap (share-of 0) (right-is b),
+      c .shares-of .ensures .1 ∙ ap₂ share-of (right-is b) (left-is b) ∙ sym (left-share-is x i) ∙ sym (leftwards-cell x i l),
+      λ _. c .shares-of .ensures .0 ∙ ap (share-of 0) (right-is b) ∙ sym (right-share-is x i),
     )
 
 returns-2 : tie.Need-returns-2

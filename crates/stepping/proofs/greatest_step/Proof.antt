@@ -1,4 +1,4 @@
--- `stepping::greatest_step` meets its contract. Assumes nothing.
+-- `stepping::greatest_step` meets its contract. Assumes refusedWith.
 use mathlib.Core.Path.{_≡_, sym, ap, _∙_}
 use denote.Ref.{now}
 use Rattle.reach.specs.Reach.{Reach, reachOf}
@@ -6,7 +6,7 @@ use Rattle.reach.specs.Grounds.{firstRefusal, recordGrounds, numberOf}
 use Rattle.reach.specs.declared.refusal.Check.{Check}
 use Rattle.reach.specs.declared.refusal.Check.the-variants.{Pass}
 use Rattle.reach.proofs.Sound.{Sound, sound}
-use Rattle.stepping.specs.GreatestStep.{nothing}
+use Rattle.stepping.specs.GreatestStep.{refusedWith}
 use Rattle.stepping.proofs.GreatestLaws.{flowing, columns-flow, stopped, found}
 use borrow.Author.Needs.{needs}
 use Rattle.stepping.proofs.greatest_step.Statement.{statement}
@@ -45,7 +45,7 @@ returns c =
     let k = c .before .before .before in
     let s = entry k in
     let t = c .before .enum-told2 .given in
-    c .refused .ensures ∙ ap (λ (k : Check). nothing (numberOf k) (s .args .t8) (s .args .ledger)) (t .1)
+    c .refused .ensures ∙ ap (λ (k : Check). refusedWith (numberOf k) (s .args .t8) (s .args .ledger)) (t .1)
     ∙ sym (stopped (reach s) (t .0 .0) (sym (k .check-record .ensures) ∙ t .1))
 
 array-copy-out-boundary-speed : tie.Need-array-copy-out-boundary-speed

@@ -1,8 +1,8 @@
--- `stepping::refused` meets its contract. Assumes nothing.
+-- `stepping::refused` meets its contract. Assumes refusedWith.
 use mathlib.Core.Path.{sym, ap}
 use Rattle.reach.specs.Grounds.{numberOf}
 use Rattle.reach.specs.declared.refusal.Check.{Check}
-use Rattle.stepping.specs.GreatestStep.{nothing}
+use Rattle.stepping.specs.GreatestStep.{refusedWith}
 use borrow.Author.Needs.{needs}
 use Rattle.stepping.proofs.refused.Statement.{statement}
 use Rattle.stepping.proofs.refused.Tie as tie
@@ -14,10 +14,10 @@ enum-told : tie.Need-enum-told
 enum-told c = search needs
 
 returns : tie.Need-returns
-returns c = let a = c .before .before .args in ap (λ (k : Check). nothing (numberOf k) (a .ends) (a .ledger)) (sym (c .enum-told .given .1))
+returns c = let a = c .before .before .args in ap (λ (k : Check). refusedWith (numberOf k) (a .ends) (a .ledger)) (sym (c .enum-told .given .1))
 
 returns-2 : tie.Need-returns-2
-returns-2 c = let a = c .before .before .before .args in ap (λ (k : Check). nothing (numberOf k) (a .ends) (a .ledger)) (sym (c .before .k .given .1))
+returns-2 c = let a = c .before .before .before .args in ap (λ (k : Check). refusedWith (numberOf k) (a .ends) (a .ledger)) (sym (c .before .k .given .1))
 
 pub refused-spec : {M : Type 1} → statement M
 refused-spec = tie.close (tie.spec enum-known-k enum-told returns returns-2)

@@ -81,10 +81,10 @@ returns c =
       left-out = (rw (right-in (c .before .before)) at (c .before .leaving .ensures .0)) ∙ leftwards-same _ _ _ _ 0 (x .leftIn) _ refl 0 refl;
       right-in = right-in (c .before .before);
       right-out =
-        (rw (right-in (c .before .before)) at (c .leaving2 .ensures .1 (omega arith)))
-        ∙ right-share-same _ _ _ _ 0 (x .leftIn) (x .rightIn) refl (n - 1) refl
-        ∙ sym (rightwards-next x (n - 1))
-        ∙ ap (rightwards x) last;
+          (rw (right-in (c .before .before)) at (c .leaving2 .ensures .1 (omega arith)))
+          ∙ right-share-same _ _ _ _ 0 (x .leftIn) (x .rightIn) refl (n - 1) refl
+          ∙ sym (rightwards-next x (n - 1))
+          ∙ ap (rightwards x) last;
     }
 
 pub crossed-of-spec : {M : Type 1} → statement M

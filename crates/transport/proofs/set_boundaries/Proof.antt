@@ -99,7 +99,7 @@ returns c =
       ledger-is = ap (λ r. r .ledger) a;
       mass-is = refl;
       base-is = refl;
-      carried-is = refl
+      carried-is = refl;
     })
 
 crossed-of-requires : tie.Need-crossed-of-requires
@@ -167,7 +167,7 @@ returns-3 c =
       ledger-is = q .1 ∙ booked x;
       mass-is = d .commit .ensures .0 ∙ ap movedMass (sym (entering x));
       base-is = d .commit .ensures .1 .0;
-      carried-is = d .commit .ensures .1 .1
+      carried-is = d .commit .ensures .1 .1;
     })
 
 pub set-boundaries-spec : {M : Type 1} → statement M

@@ -9,8 +9,7 @@ use mir.Facts.{toZ-ofZ}
 use borrow.Author.Tests.{le-leb, lt-leb}
 use Rattle.numbers.specs.Index.{allOf}
 use Rattle.numbers.proofs.IndexLaws.{on, off, only}
-use Rattle.flux.specs.Limits.{depthMost, velocityMost, bedMost}
-use Rattle.reach.specs.Limits.{concentrationMost}
+use Rattle.flux.specs.Limits.{depthMost, velocityMost, bedMost, concentrationMost}
 use Rattle.reach.specs.Grounds.{cellFits}
 use borrow.Author.Needs.{needs}
 use Rattle.reach.proofs.cells.cell_fits.Statement.{statement}
