@@ -59,6 +59,12 @@ unfolding firstRefusal
 further [] hs e = refl
 further (g ∷ gs) hs e = let w = went-on (g .stands) (firstRefusal gs) (g .number) e in rw (w .0) (further gs hs (w .1))
 
+-- where all stand, those before stand
+pub passed-first : (gs hs : List Ground) → firstRefusal (gs ++ hs) ≡ Pass → firstRefusal gs ≡ Pass
+unfolding firstRefusal
+passed-first [] hs e = refl
+passed-first (g ∷ gs) hs e = let w = went-on (g .stands) (firstRefusal (gs ++ hs)) (g .number) e in rw (w .0) (passed-first gs hs (w .1))
+
 failed : (t : Bool) (x y : Check) (m n : ℕ) → cond t x (Refused m) ≡ Refused n → (x ≡ Refused n → y ≡ Refused n) → cond t y (Refused m) ≡ Refused n
 failed true x y m n e k = k e
 failed false x y m n e k = e

@@ -1,4 +1,4 @@
--- What demand 3 measures of a record: mass held, what the ledger says came in and went out, and bounds on the concentration.
+-- What demand 3 measures of a record: water and mass held, what the ledger says came in and went out, and bounds on the concentration.
 use mathlib.Core.Path.{_≡_}
 use mathlib.Core.List.{List}
 use Prim.Native.Nat.{ℕ, _+_, _*_, _≤_, _<_}
@@ -7,6 +7,19 @@ use Rattle.reach.specs.Limits.{wall}
 use Rattle.reach.specs.Reach.{Reach, cells, massAt, baseAt, leftEnd, rightEnd}
 use Rattle.reach.specs.declared.boundary.Boundary.{Boundary}
 use Rattle.reach.specs.declared.ledger.Ledger.{Ledger}
+
+unfoldable pub waterHeld : Reach → ℕ
+waterHeld s = sum (s .depth)
+
+unfoldable pub waterIn : Ledger → ℕ
+waterIn k = k .left .«water_in» + k .right .«water_in»
+
+unfoldable pub waterOut : Ledger → ℕ
+waterOut k = k .left .«water_out» + k .right .«water_out»
+
+-- from s to t no water is lost or made: what is held changes by what the ledger gained in less what it gained out
+unfoldable pub WaterBalanced : (s t : Reach) → Type 0
+WaterBalanced s t = waterHeld t + waterOut (t .ledger) + waterIn (s .ledger) ≡ waterHeld s + waterOut (s .ledger) + waterIn (t .ledger)
 
 unfoldable pub massHeld : Reach → ℕ
 massHeld s = sum (s .mass)
@@ -17,7 +30,7 @@ massIn k = k .left .«mass_in» + k .right .«mass_in»
 unfoldable pub massOut : Ledger → ℕ
 massOut k = k .left .«mass_out» + k .right .«mass_out»
 
--- from s to t no mass is lost or made: what is held changes by what the ledger gained in less what it gained out
+-- the same of mass
 unfoldable pub MassBalanced : (s t : Reach) → Type 0
 MassBalanced s t = massHeld t + massOut (t .ledger) + massIn (s .ledger) ≡ massHeld s + massOut (s .ledger) + massIn (t .ledger)
 

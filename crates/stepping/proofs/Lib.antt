@@ -1,1 +1,2 @@
 pub mod GreatestLaws
+pub mod StepLaws

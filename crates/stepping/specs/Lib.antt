@@ -1,1 +1,2 @@
 pub mod GreatestStep
+pub mod Step

@@ -199,7 +199,7 @@ module _ (s : Reach) (k : Sound s) (es : List Boundary) where
   unfolding transported
   cells-same = refl
 
-  base-at : (i : ℕ) → baseAt (transported s es) i ≡ depthAt s i
+  pub base-at : (i : ℕ) → baseAt (transported s es) i ≡ depthAt s i
   unfolding transported
   base-at i = refl
 
@@ -236,7 +236,7 @@ module _ (s : Reach) (k : Sound s) (es : List Boundary) where
     right = record { above = λ n. omega arith; below = λ n. k .right .concentration };
   }
 
-  carried-zero : (i : ℕ) → i < length (s .carried) → carriedAt (transported s es) i ≡ pos 0
+  pub carried-zero : (i : ℕ) → i < length (s .carried) → carriedAt (transported s es) i ≡ pos 0
   unfolding transported
   carried-zero i l = getD-replicate (length (s .carried)) i (pos 0) (pos 0) l
 

@@ -1,0 +1,31 @@
+-- `figures::two_cell_run_met` meets its contract: every figure is computed from the definitions. Assumes nothing.
+use mathlib.Core.Path.{refl}
+use Rattle.numbers.specs.Index.{allOf, allBelow, tabulate}
+use Rattle.numbers.specs.Root.{squareRoot}
+use Rattle.numbers.specs.Search.{climb}
+use Rattle.numbers.specs.Shares.{share, shares, rest}
+use Rattle.numbers.specs.Signed.{maxℤ, eqℤ}
+use Rattle.flux.specs.Crossing.{upper, lower, waterOf, waterFlux, secondMoment, momentumOf, momentumFlux, stillThrust}
+use Rattle.flux.specs.Interface.{reducedDepth, leftDepth, rightDepth, netWater, momentumSum, mirrored}
+use Rattle.flux.specs.Velocity.{velocity}
+use Rattle.flux.specs.Wave.{waveSpeed}
+use Rattle.cfl.specs.Cfl.{signalSpeed, speedAt, meetsCfl}
+use Rattle.mass.specs.Transport.{cellShares, rightShare, leftShare, rightwards, leftwards, movedCell, movedMass}
+use Rattle.reach.specs.Grounds.{firstRefusal, lengthsFit, cellLengthFits, wallFits, openFits, fedFits, kindFits, boundaryFits, boundariesFit, cellFits, cellsFit, carriedFits, carriedCellsFit, shutFits, carriedFit, totalsFit, ledgerFits}
+use Rattle.transport.specs.Calls.{enteringLeft, enteringRight, withMass, ledgerWith, transportLedger, transported, setBoundaries, transport}
+use Rattle.water.specs.Sides.{cellSide, boundarySide, leftSide, rightSide}
+use Rattle.water.specs.Water.{netAt, momentumAt, ownLeft, ownRight, newDepth, pushed, nearest, newDischarge}
+use Rattle.stepping.specs.GreatestStep.{boundarySpeed, placeSpeed}
+use Rattle.stepping.specs.Step.{summed, keepsSums, settledFirst, withWater, withEndWater, stepLedger, stepped, timeFits, depthsFit, step}
+use Rattle.figures.proofs.two_cell_run_met.Statement.{statement}
+use Rattle.figures.proofs.two_cell_run_met.Tie as tie
+
+returns : tie.Need-returns
+unfolding allOf allBelow tabulate squareRoot climb share shares rest maxℤ eqℤ upper lower waterOf waterFlux secondMoment momentumOf momentumFlux stillThrust reducedDepth leftDepth rightDepth netWater momentumSum mirrored velocity waveSpeed signalSpeed speedAt meetsCfl cellShares rightShare leftShare rightwards leftwards movedCell movedMass firstRefusal lengthsFit cellLengthFits wallFits openFits fedFits kindFits boundaryFits boundariesFit cellFits cellsFit carriedFits carriedCellsFit shutFits carriedFit totalsFit ledgerFits enteringLeft enteringRight withMass ledgerWith transportLedger transported setBoundaries transport cellSide boundarySide leftSide rightSide netAt momentumAt ownLeft ownRight newDepth pushed nearest newDischarge boundarySpeed placeSpeed summed keepsSums settledFirst withWater withEndWater stepLedger stepped timeFits depthsFit step
+returns c = (
+  record { step-accepted = refl; settling-accepted = refl; depths = refl; discharges = refl; masses = refl; ledger-empty = refl },
+  record { t-260 = refl; t-261 = refl },
+)
+
+pub two-cell-run-met-spec : {M : Type 1} → statement M
+two-cell-run-met-spec = tie.close (tie.spec returns)

@@ -1,0 +1,117 @@
+-- Laws of the water of a step: no depth goes below zero, and a wall passes nothing. Assumes nothing.
+use mathlib.Core.Path.{_≡_, refl, sym, ap, _∙_}
+use mathlib.Core.Bool.{cond}
+use mathlib.Core.Logic.{⊎-elim}
+use Prim.Native.Nat.{ℕ, zero, suc, _+_, _-_, _*_, _≤_, _<_}
+use native.Mathlib.Omega.{arith}
+use borrow.Author.Tests.{lt-ltb, le-ltb, eq-eqb}
+use lib.IntN.{ℤ, pos, _+ℤ_, _-ℤ_, negℤ, subℕ, natAbs}
+use lib.Signed.{leZ}
+use Rattle.numbers.proofs.SearchLaws.{by-test}
+use Rattle.numbers.proofs.SignedLaws.{R, L, right-sub, left-sub, pos-cross, neg-cross, add-cross, minus-cross, from-cross, le-cross, leZ-no, one-part, abs-parts, abs-neg}
+use Rattle.flux.specs.Wave.{waveSpeed}
+use Rattle.flux.specs.Velocity.{velocity}
+use Rattle.flux.specs.Crossing.{waterFlux}
+use Rattle.flux.specs.Interface.{Side, leftDepth, rightDepth, netWater, mirrored}
+use Rattle.flux.proofs.InterfaceLaws.{net-water-is, wall-passes-nothing, cell-outflow-le-depth}
+use Rattle.reach.specs.Limits.{wall}
+use Rattle.reach.specs.Reach.{Reach, cells, depthAt, dischargeAt, leftEnd, rightEnd}
+use Rattle.water.specs.Sides.{cellSide, boundarySide, leftSide, rightSide}
+use Rattle.water.specs.Water.{netAt, newDepth, nearest}
+
+-- what either side of interface i sends over it
+unfoldable pub rightward : Reach → (t i : ℕ) → ℕ
+rightward s t i = waterFlux t (s .cellLength) (leftDepth (leftSide s i) (rightSide s i)) (leftSide s i .velocity)
+
+unfoldable pub leftward : Reach → (t i : ℕ) → ℕ
+leftward s t i = waterFlux t (s .cellLength) (rightDepth (leftSide s i) (rightSide s i)) (negℤ (rightSide s i .velocity))
+
+pub net-is : (s : Reach) (t i : ℕ) → netAt s t i ≡ subℕ (rightward s t i) (leftward s t i)
+unfolding netAt rightward leftward
+net-is s t i = net-water-is t (s .cellLength) (leftSide s i) (rightSide s i)
+
+-- cell i is the right side of its left interface and the left side of its right one
+pub right-side-cell : (s : Reach) (i : ℕ) → i < cells s → rightSide s i ≡ cellSide s i
+unfolding rightSide
+right-side-cell s i l = rw (lt-ltb i (cells s) l) refl
+
+pub left-side-cell : (s : Reach) (i : ℕ) → leftSide s (suc i) ≡ cellSide s i
+unfolding leftSide
+left-side-cell s i = refl
+
+-- a cell that meets CFL sends at most its depth over both sides
+sent : (s : Reach) (t i : ℕ) → 0 < s .cellLength
+    → t * (natAbs (velocity (depthAt s i) (dischargeAt s i)) + waveSpeed (depthAt s i)) ≤ 1_000 * s .cellLength
+    → waterFlux t (s .cellLength) (leftDepth (cellSide s i) (rightSide s (suc i))) (cellSide s i .velocity)
+    + waterFlux t (s .cellLength) (rightDepth (leftSide s i) (cellSide s i)) (negℤ (cellSide s i .velocity)) ≤ cellSide s i .depth
+unfolding cellSide
+sent s t i x cfl = cell-outflow-le-depth t (s .cellLength) (leftSide s i) (cellSide s i) (rightSide s (suc i)) x cfl
+
+pub outflow-covered : (s : Reach) (t i : ℕ) → i < cells s → 0 < s .cellLength
+    → t * (natAbs (velocity (depthAt s i) (dischargeAt s i)) + waveSpeed (depthAt s i)) ≤ 1_000 * s .cellLength
+    → leftward s t i + rightward s t (suc i) ≤ depthAt s i
+unfolding rightward leftward cellSide
+outflow-covered s t i l x cfl =
+    let e = sent s t i x cfl in
+    rw (left-side-cell s i, right-side-cell s i l) (omega arith)
+
+sum-of-parts : (h a b c d : ℕ) → b + c ≤ h → pos h +ℤ subℕ a b -ℤ subℕ c d ≡ pos (h + a + d - (b + c))
+sum-of-parts h a b c d l =
+    from-cross _ _
+    (omega (
+      arith,
+      minus-cross (pos h +ℤ subℕ a b) (subℕ c d),
+      add-cross (pos h) (subℕ a b),
+      pos-cross h,
+      right-sub a b,
+      left-sub a b,
+      right-sub c d,
+      left-sub c d,
+      pos-cross (h + a + d - (b + c)),
+    ))
+
+-- h' is a natural number: no depth goes below zero
+pub new-depth-is : (s : Reach) (t i : ℕ) → i < cells s → 0 < s .cellLength
+    → t * (natAbs (velocity (depthAt s i) (dischargeAt s i)) + waveSpeed (depthAt s i)) ≤ 1_000 * s .cellLength
+    → newDepth s t i ≡ pos (depthAt s i + rightward s t i + leftward s t (suc i) - (leftward s t i + rightward s t (suc i)))
+unfolding newDepth
+new-depth-is s t i l x cfl =
+    rw (net-is s t i, net-is s t (suc i))
+    (sum-of-parts (depthAt s i) (rightward s t i) (leftward s t i) (rightward s t (suc i)) (leftward s t (suc i)) (outflow-covered s t i l x cfl))
+
+-- over a wall no water comes
+pub wall-left : (s : Reach) (t : ℕ) → 0 < cells s → leftEnd (s .ends) .kind ≡ wall → netAt s t 0 ≡ pos 0
+unfolding netAt leftSide boundarySide
+wall-left s t n w = rw (right-side-cell s 0 n, eq-eqb _ _ w) (wall-passes-nothing t (s .cellLength) (cellSide s 0) .1)
+
+last-wall : (s : Reach) (t i : ℕ) → cells s ≡ suc i → rightEnd (s .ends) .kind ≡ wall → netWater t (s .cellLength) (leftSide s (suc i)) (rightSide s (suc i)) ≡ pos 0
+unfolding leftSide rightSide boundarySide
+last-wall s t i e w =
+    let n : cells s - 1 ≡ i = omega arith in
+    let l : cells s ≤ suc i = omega arith in
+    rw (le-ltb (suc i) (cells s) l, eq-eqb (rightEnd (s .ends) .kind) wall w, n) (wall-passes-nothing t (s .cellLength) (cellSide s i) .0)
+
+pub wall-right : (s : Reach) (t : ℕ) → 0 < cells s → rightEnd (s .ends) .kind ≡ wall → netAt s t (cells s) ≡ pos 0
+unfolding netAt
+wall-right s t n w = go (cells s) n refl
+  where
+    go : (m : ℕ) → 0 < m → cells s ≡ m → netWater t (s .cellLength) (leftSide s m) (rightSide s m) ≡ pos 0
+    go zero p e = absurd (omega arith)
+    go (suc i) p e = last-wall s t i e w
+
+-- ---- the nearest value lies in the range
+
+pub nearest-within : (most : ℕ) (z : ℤ) → natAbs (nearest most z) ≤ most
+unfolding nearest
+nearest-within most z =
+    by-test (leZ (pos most) z) (λ b. natAbs (cond b (pos most) (cond (leZ z (negℤ (pos most))) (negℤ (pos most)) z)) ≤ most)
+    (λ t. omega arith)
+    (λ t. by-test (leZ z (negℤ (pos most))) (λ b. natAbs (cond b (negℤ (pos most)) z) ≤ most)
+    (λ u. omega (arith, abs-neg (pos most)))
+    (λ u. inside (le-cross z (pos most) (leZ-no (pos most) z t)) (le-cross (negℤ (pos most)) z (leZ-no z (negℤ (pos most)) u))))
+  where
+    inside : R z + L (pos most) ≤ most + L z → R (negℤ (pos most)) + L z ≤ R z + L (negℤ (pos most)) → natAbs z ≤ most
+    inside p q =
+        let e = pos-cross most in
+        let n = neg-cross (pos most) in
+        ⊎-elim (λ o. omega (arith, abs-parts z, n .1)) (λ o. omega (arith, abs-parts z)) (one-part z)

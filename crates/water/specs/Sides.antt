@@ -1,0 +1,28 @@
+-- Document 01, 'A water step': what stands on either side of each interface of a record.
+use mathlib.Core.Bool.{cond}
+use Prim.Native.Nat.{ℕ, zero, suc, _-_}
+use lib.Dec.{eqb, ltb}
+use Rattle.flux.specs.Interface.{Side, mirrored}
+use Rattle.flux.specs.Velocity.{velocity}
+use Rattle.reach.specs.Limits.{wall, openEnd}
+use Rattle.reach.specs.Reach.{Reach, cells, bedAt, depthAt, dischargeAt, leftEnd, rightEnd}
+use Rattle.reach.specs.declared.boundary.Boundary.{Boundary}
+
+-- cell i
+unfoldable pub cellSide : Reach → ℕ → Side
+cellSide s i = record { bed = bedAt s i; depth = depthAt s i; velocity = velocity (depthAt s i) (dischargeAt s i) }
+
+-- an end beside the cell c: it has the bed of its cell; a wall mirrors the cell (h, speed −u), an open end copies it, a fed end uses
+-- its own depth and speed
+unfoldable pub boundarySide : Boundary → Side → Side
+boundarySide e c =
+    cond (eqb (e .kind) wall) (mirrored c)
+    (cond (eqb (e .kind) openEnd) c (record { bed = c .bed; depth = e .depth; velocity = velocity (e .depth) (e .discharge) }))
+
+-- the left and the right side of interface i
+unfoldable pub leftSide : Reach → ℕ → Side
+leftSide s zero = boundarySide (leftEnd (s .ends)) (cellSide s 0)
+leftSide s (suc i) = cellSide s i
+
+unfoldable pub rightSide : Reach → ℕ → Side
+rightSide s i = cond (ltb i (cells s)) (cellSide s i) (boundarySide (rightEnd (s .ends)) (cellSide s (cells s - 1)))
