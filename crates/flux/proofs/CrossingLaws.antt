@@ -3,7 +3,7 @@
 use mathlib.Core.Path.{_≡_, refl, ap, subst, _∙_}
 use mathlib.Core.Logic.{⊎-elim}
 use Prim.Native.Nat.{ℕ, zero, suc, _+_, _*_, _-_, _/_, _≤_, _<_}
-use native.Mathlib.Nat.{mul-le-mul, mul-le-mul-left, mul-le-mul-right, mul-pos, le-trans, sub-le, le-of-mul-le-mul-left, zero-div, div-zero, div-mul-le-self, div-le-of-le-mul, mul-div-mul-left, eq-zero-or-pos, pos-of-ne-zero}
+use native.Mathlib.Nat.{le-div-iff-mul-le, zero-lt-suc, mul-le-mul, mul-le-mul-left, mul-le-mul-right, mul-pos, le-trans, sub-le, le-of-mul-le-mul-left, zero-div, div-zero, div-mul-le-self, div-le-of-le-mul, mul-div-mul-left, eq-zero-or-pos, pos-of-ne-zero}
 use native.Mathlib.Omega.{arith}
 use lib.IntN.{ℤ, pos, negsuc, _+ℤ_, _-ℤ_, negℤ, subℕ, natAbs, negℤ-negℤ}
 use Rattle.numbers.specs.Signed.{positive}
@@ -274,3 +274,16 @@ still-thrust-is t X h = rw (rest-upper (waveSpeed h), rest-lower (waveSpeed h), 
 
     rest-lower : (a : ℕ) → lower a (pos 0) ≡ 0
     rest-lower a = omega (arith, lower-parts a (pos 0))
+
+div-mono : (d : ℕ) {n m : ℕ} → n ≤ m → n / d ≤ m / d
+div-mono zero {n} {m} l = omega (arith, div-zero n, div-zero m)
+div-mono (suc d) {n} {m} l = le-div-iff-mul-le (zero-lt-suc d) .1 (le-trans (div-mul-le-self n (suc d)) l)
+
+-- S grows with the depth
+pub still-thrust-mono : (t X h k : ℕ) → h ≤ k → stillThrust t X h ≤ stillThrust t X k
+unfolding momentumOf
+still-thrust-mono t X h k l =
+    let a = wave-speed-mono h k l in
+    let m : waveSpeed h * waveSpeed h / 6 ≤ waveSpeed k * waveSpeed k / 6 = omega (arith, mul-le-mul a a) in
+    let v : h * t * (waveSpeed h * waveSpeed h / 6) ≤ k * t * (waveSpeed k * waveSpeed k / 6) = mul-le-mul (mul-le-mul-right t l) m in
+    rw (still-thrust-is t X h, still-thrust-is t X k) (mul-le-mul-left 2 (div-mono (1_000 * X) v))

@@ -1,1 +1,94 @@
-// The water of a step (document 01, 'A water step'): definitions and laws.
+// The water of a step (document 01, 'A water step'): what a cell or an end shows at an interface, and what crosses there.
+ghost use mathlib.Core.Path.{_≡_};
+ghost use Prim.Native.Nat.{_*_, _-_, _≤_};
+ghost use lib.IntN.{natAbs};
+ghost use Rattle.flux.specs.Limits.{bedMost, depthMost, velocityMost};
+ghost use Rattle.flux.specs.Crossing.{stillThrust};
+ghost use Rattle.flux.specs.Ranges.{Mesh, Flow};
+ghost use Rattle.flux.specs.Velocity.{velocity};
+ghost use Rattle.water.specs.Ranges.{sideOf, CellFits, Crosses};
+use flux::crossing::still_thrust;
+use flux::interface::Facing;
+use flux::interface::exchange_of;
+use flux::interface::reduced_depth;
+use flux::interface::reduced_wave;
+use flux::velocity::velocity_parts;
+use flux::wave::wave_speed;
+
+// A cell, or an end beside one: bed level, depth, wave speed, and velocity right − left
+pub struct Cell {
+    pub bed: i64,
+    pub depth: u64,
+    pub wave: u64,
+    pub right: u64,
+    pub left: u64,
+}
+
+pub fn cell_of(z: i64, h: u64, q: i64) -> Cell
+    requires { ⌜ (natAbs z ≤ bedMost) × ((h ≤ depthMost) × (natAbs q ≤ velocityMost * h)) ⌝ }
+    ensures { λ r. ⌜ CellFits r × (sideOf r ≡ record { bed = z; depth = h; velocity = velocity h q }) ⌝ }
+{
+    let u = velocity_parts(h, q);
+    Cell {
+        bed: z,
+        depth: h,
+        wave: wave_speed(h),
+        right: u.right,
+        left: u.left,
+    }
+}
+
+// S of the whole depth less S of the reduced depth: no quotient where nothing is taken off
+fn thrust_lost(t: u64, x: u64, h: u64, a: u64, reduced: u64, reduced_a: u64) -> u64
+    requires { ⌜ Mesh t x × (Flow h a 0 0 × (Flow reduced «reduced_a» 0 0 × (reduced ≤ h))) ⌝ }
+    ensures { λ r. ⌜ r ≡ stillThrust t x h - stillThrust t x reduced ⌝ }
+{
+    if reduced == h {
+        return 0;
+    }
+    still_thrust(t, x, h, a) - still_thrust(t, x, reduced, reduced_a)
+}
+
+// What crosses an interface: W of the left side rightwards, W of the right side leftwards, P, and what the bed takes of either side's thrust,
+// S(h) − S(h*). N is rightward − leftward; of a cell, S(own h* at the right) − S(own h* at the left) is what is lost at its left less what is
+// lost at its right.
+pub struct Crossing {
+    pub rightward: u64,
+    pub leftward: u64,
+    pub momentum: u64,
+    pub lost_left: u64,
+    pub lost_right: u64,
+}
+
+pub fn crossing_between(t: u64, x: u64, l: Cell, r: Cell) -> Crossing
+    requires { ⌜ Mesh t x × (CellFits l × CellFits r) ⌝ }
+    ensures { λ c. ⌜ Crosses t x (sideOf l) (sideOf r) (c .rightward) (c .leftward) (c .momentum) (c .«lost_left») (c .«lost_right») ⌝ }
+{
+    let hl = reduced_depth(l.depth, l.bed, r.bed);
+    let hr = reduced_depth(r.depth, r.bed, l.bed);
+    let al = reduced_wave(hl, l.depth, l.wave);
+    let ar = reduced_wave(hr, r.depth, r.wave);
+    let e = exchange_of(
+        t,
+        x,
+        Facing {
+            depth: hl,
+            wave: al,
+            right: l.right,
+            left: l.left,
+        },
+        Facing {
+            depth: hr,
+            wave: ar,
+            right: r.right,
+            left: r.left,
+        },
+    );
+    Crossing {
+        rightward: e.rightward,
+        leftward: e.leftward,
+        momentum: e.momentum,
+        lost_left: thrust_lost(t, x, l.depth, l.wave, hl, al),
+        lost_right: thrust_lost(t, x, r.depth, r.wave, hr, ar),
+    }
+}

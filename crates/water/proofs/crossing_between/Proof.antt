@@ -1,0 +1,131 @@
+-- `water::crossing_between` meets its contract. Assumes nothing.
+use mathlib.Core.Path.{_≡_, refl, sym, ap, ap₂, _∙_}
+use Prim.Native.Nat.{ℕ, _+_, _-_, _≤_}
+use native.Mathlib.Omega.{arith}
+use native.Mathlib.Nat.{le-trans}
+use lib.IntN.{ℤ, negℤ, subℕ}
+use mir.Facts.{toZ-ofZ}
+use Rattle.numbers.proofs.SignedLaws.{sub-neg}
+use Rattle.flux.specs.Crossing.{waterFlux, momentumFlux, stillThrust}
+use Rattle.flux.specs.Interface.{reducedDepth, leftDepth, rightDepth, momentumSum}
+use Rattle.flux.specs.Ranges.{Flow}
+use Rattle.flux.specs.Wave.{waveSpeed}
+use Rattle.flux.proofs.InterfaceLaws.{reduced-depth-le}
+use borrow.Author.Needs.{needs}
+use Rattle.water.proofs.crossing_between.Statement.{statement}
+use Rattle.water.proofs.crossing_between.Tie as tie
+
+abbrev entry : tie.After-reduced-depth → tie.Start
+entry c = c .before .before .before
+
+left-is : (c : tie.After-reduced-depth) →
+    let s = entry c .args in c .reduced-depth .result ≡ reducedDepth (s .l .depth) (s .l .bed) (s .r .bed)
+left-is c =
+    rw (toZ-ofZ (record { sfits = c .before .before .struct-told .given .0 .1 }), toZ-ofZ (record { sfits = c .before .struct-told2 .given .0 .1 })) at
+    (c .reduced-depth .ensures)
+
+right-is : (c : tie.After-reduced-depth2) →
+    let s = entry (c .before .before .before) .args in c .reduced-depth2 .result ≡ reducedDepth (s .r .depth) (s .r .bed) (s .l .bed)
+right-is c =
+    rw (toZ-ofZ (record { sfits = c .before .before .struct-told3 .given .0 .1 }), toZ-ofZ (record { sfits = c .before .struct-told4 .given .0 .1 })) at
+    (c .reduced-depth2 .ensures)
+
+left-le : (c : tie.After-reduced-depth) → c .reduced-depth .result ≤ entry c .args .l .depth
+left-le c = let s = entry c .args in omega (arith, left-is c, reduced-depth-le (s .l .depth) (s .l .bed) (s .r .bed))
+
+right-le : (c : tie.After-reduced-depth2) → c .reduced-depth2 .result ≤ entry (c .before .before .before) .args .r .depth
+right-le c = let s = entry (c .before .before .before) .args in omega (arith, right-is c, reduced-depth-le (s .r .depth) (s .r .bed) (s .l .bed))
+
+left-deep : (c : tie.After-reduced-depth) → c .reduced-depth .result ≤ 4_000_000
+left-deep c = le-trans (left-le c) (entry c .pre .1 .0 .depth)
+
+right-deep : (c : tie.After-reduced-depth2) → c .reduced-depth2 .result ≤ 4_000_000
+right-deep c = le-trans (right-le c) (entry (c .before .before .before) .pre .1 .1 .depth)
+
+reduced-depth-requires : tie.Need-reduced-depth-requires
+reduced-depth-requires c κs = search needs
+
+reduced-depth-requires-2 : tie.Need-reduced-depth-requires-2
+reduced-depth-requires-2 c κs = search needs
+
+reduced-wave-requires : tie.Need-reduced-wave-requires
+reduced-wave-requires c κs =
+    let s = entry (c .before .before .before) in
+    (left-deep (c .before .before .before), s .pre .1 .0 .wave)
+
+reduced-wave-requires-2 : tie.Need-reduced-wave-requires-2
+reduced-wave-requires-2 c κs =
+    let s = entry (c .before .before .before .before) in
+    (right-deep (c .before), s .pre .1 .1 .wave)
+
+exchange-of-requires : tie.Need-exchange-of-requires
+exchange-of-requires c κs =
+    let b = c .before .before in
+    let s = entry (b .before .before .before) in
+    let p = s .pre .1 in (
+      s .pre .0,
+      (
+        record { depth = left-deep (b .before .before .before); wave = c .before .reduced-wave .ensures; right-most = p .0 .right-most; left-most = p .0 .left-most },
+        record { depth = right-deep b; wave = c .reduced-wave2 .ensures; right-most = p .1 .right-most; left-most = p .1 .left-most },
+      ),
+    )
+
+thrust-lost-requires : tie.Need-thrust-lost-requires
+thrust-lost-requires c κs =
+    let b = c .before .before .before in
+    let s = entry (b .before .before .before) in
+    let p = s .pre .1 .0 in (
+      s .pre .0,
+      (
+        record { depth = p .depth; wave = p .wave; right-most = omega arith; left-most = omega arith },
+        (
+          record { depth = left-deep (b .before .before .before); wave = c .before .before .reduced-wave .ensures; right-most = omega arith; left-most = omega arith },
+          left-le (b .before .before .before),
+        ),
+      ),
+    )
+
+thrust-lost-requires-2 : tie.Need-thrust-lost-requires-2
+thrust-lost-requires-2 c κs =
+    let b = c .before .before .before .before in
+    let s = entry (b .before .before .before) in
+    let p = s .pre .1 .1 in (
+      s .pre .0,
+      (
+        record { depth = p .depth; wave = p .wave; right-most = omega arith; left-most = omega arith },
+        (record { depth = right-deep b; wave = c .before .before .reduced-wave2 .ensures; right-most = omega arith; left-most = omega arith }, right-le b),
+      ),
+    )
+
+returns : tie.Need-returns
+unfolding momentumSum leftDepth rightDepth
+returns c =
+    let b = c .before .before .before .before .before in
+    let s = entry (b .before .before .before) .args in
+    let e = c .before .before .exchange-of .ensures in
+    let hl = left-is (b .before .before .before) in
+    let hr = right-is b in
+    let turned = sym (sub-neg (s .r .right) (s .r .left)) in
+    let water : ℕ → ℤ → ℕ = λ h u. waterFlux (s .t) (s .x) h u in
+    let push : ℕ → ℤ → ℕ = λ h u. momentumFlux (s .t) (s .x) h u in
+    let ul = subℕ (s .l .right) (s .l .left) in
+    record {
+      rightward-is = e .0 ∙ ap (λ (h : ℕ). water h ul) hl;
+      leftward-is = e .1 .0 ∙ ap₂ water hr turned;
+      momentum-is = e .1 .1 ∙ ap₂ _+_ (ap (λ (h : ℕ). push h ul) hl) (ap₂ push hr turned);
+      lost-left-is = c .before .thrust-lost .ensures ∙ ap (λ (h : ℕ). stillThrust (s .t) (s .x) (s .l .depth) - stillThrust (s .t) (s .x) h) hl;
+      lost-right-is = c .thrust-lost2 .ensures ∙ ap (λ (h : ℕ). stillThrust (s .t) (s .x) (s .r .depth) - stillThrust (s .t) (s .x) h) hr;
+    }
+
+pub crossing-between-spec : {M : Type 1} → statement M
+crossing-between-spec =
+    tie.close
+    (tie.spec
+    reduced-depth-requires
+    reduced-depth-requires-2
+    reduced-wave-requires
+    reduced-wave-requires-2
+    exchange-of-requires
+    thrust-lost-requires
+    thrust-lost-requires-2
+    returns)
