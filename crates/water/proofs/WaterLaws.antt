@@ -4,7 +4,7 @@ use mathlib.Core.Bool.{cond}
 use mathlib.Core.Logic.{⊎-elim}
 use Prim.Native.Nat.{ℕ, zero, suc, _+_, _-_, _*_, _≤_, _<_}
 use native.Mathlib.Omega.{arith}
-use borrow.Author.Tests.{lt-ltb, le-ltb, eq-eqb}
+use borrow.Author.Tests.{lt-ltb, le-ltb, eq-eqb, ne-eqb}
 use lib.IntN.{ℤ, pos, _+ℤ_, _-ℤ_, negℤ, subℕ, natAbs}
 use lib.Signed.{leZ}
 use Rattle.numbers.proofs.SearchLaws.{by-test}
@@ -14,7 +14,8 @@ use Rattle.flux.specs.Velocity.{velocity}
 use Rattle.flux.specs.Crossing.{waterFlux}
 use Rattle.flux.specs.Interface.{Side, leftDepth, rightDepth, netWater, mirrored}
 use Rattle.flux.proofs.InterfaceLaws.{net-water-is, wall-passes-nothing, cell-outflow-le-depth}
-use Rattle.reach.specs.Limits.{wall}
+use Rattle.reach.specs.Limits.{wall, openEnd}
+use Rattle.reach.specs.declared.boundary.Boundary.{Boundary}
 use Rattle.reach.specs.Reach.{Reach, cells, depthAt, dischargeAt, leftEnd, rightEnd}
 use Rattle.water.specs.Sides.{cellSide, boundarySide, leftSide, rightSide}
 use Rattle.water.specs.Water.{netAt, newDepth, nearest}
@@ -115,3 +116,18 @@ nearest-within most z =
         let e = pos-cross most in
         let n = neg-cross (pos most) in
         ⊎-elim (λ o. omega (arith, abs-parts z, n .1)) (λ o. omega (arith, abs-parts z)) (one-part z)
+
+-- ---- an end beside the cell c, by its kind
+
+pub boundary-wall : (e : Boundary) (c : Side) → e .kind ≡ wall → boundarySide e c ≡ mirrored c
+unfolding boundarySide
+boundary-wall e c w = rw (eq-eqb _ _ w) refl
+
+pub boundary-open : (e : Boundary) (c : Side) → (e .kind ≡ wall → ⊥) → e .kind ≡ openEnd → boundarySide e c ≡ c
+unfolding boundarySide
+boundary-open e c w o = rw (ne-eqb _ _ w, eq-eqb _ _ o) refl
+
+pub boundary-fed : (e : Boundary) (c : Side) → (e .kind ≡ wall → ⊥) → (e .kind ≡ openEnd → ⊥)
+    → boundarySide e c ≡ record { bed = c .bed; depth = e .depth; velocity = velocity (e .depth) (e .discharge) }
+unfolding boundarySide
+boundary-fed e c w o = rw (ne-eqb _ _ w, ne-eqb _ _ o) refl

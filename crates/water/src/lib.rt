@@ -7,6 +7,7 @@ ghost use Rattle.flux.specs.Crossing.{stillThrust};
 ghost use Rattle.flux.specs.Ranges.{Mesh, Flow};
 ghost use Rattle.flux.specs.Velocity.{velocity};
 ghost use Rattle.water.specs.Ranges.{sideOf, CellFits, Crosses};
+ghost use Rattle.water.specs.Sides.{boundarySide};
 use flux::crossing::still_thrust;
 use flux::interface::Facing;
 use flux::interface::exchange_of;
@@ -14,6 +15,9 @@ use flux::interface::reduced_depth;
 use flux::interface::reduced_wave;
 use flux::velocity::velocity_parts;
 use flux::wave::wave_speed;
+use reach::boundary::Boundary;
+use reach::boundary::OPEN;
+use reach::boundary::WALL;
 
 // A cell, or an end beside one: bed level, depth, wave speed, and velocity right − left
 pub struct Cell {
@@ -36,6 +40,26 @@ pub fn cell_of(z: i64, h: u64, q: i64) -> Cell
         right: u.right,
         left: u.left,
     }
+}
+
+// What an end shows beside the cell c
+pub fn boundary_cell(e: Boundary, c: Cell) -> Cell
+    requires { ⌜ CellFits c × ((e .depth ≤ depthMost) × (natAbs (e .discharge) ≤ velocityMost * e .depth)) ⌝ }
+    ensures { λ r. ⌜ CellFits r × (sideOf r ≡ boundarySide e (sideOf c)) ⌝ }
+{
+    if e.kind == WALL {
+        return Cell {
+            bed: c.bed,
+            depth: c.depth,
+            wave: c.wave,
+            right: c.left,
+            left: c.right,
+        };
+    }
+    if e.kind == OPEN {
+        return c;
+    }
+    cell_of(c.bed, e.depth, e.discharge)
 }
 
 // S of the whole depth less S of the reduced depth: no quotient where nothing is taken off
