@@ -6,9 +6,9 @@ use Prim.Native.Nat.{ℕ, zero, suc, _+_, _-_, _*_, _≤_, _<_}
 use native.Mathlib.Omega.{arith}
 use borrow.Author.Tests.{lt-ltb, le-ltb, eq-eqb, ne-eqb}
 use lib.IntN.{ℤ, pos, _+ℤ_, _-ℤ_, negℤ, subℕ, natAbs}
-use lib.Signed.{leZ}
+use lib.Signed.{leZ, leZ-yes}
 use Rattle.numbers.proofs.SearchLaws.{by-test}
-use Rattle.numbers.proofs.SignedLaws.{R, L, right-sub, left-sub, pos-cross, neg-cross, add-cross, minus-cross, from-cross, le-cross, leZ-no, one-part, abs-parts, abs-neg}
+use Rattle.numbers.proofs.SignedLaws.{R, L, right-sub, left-sub, pos-cross, neg-cross, add-cross, minus-cross, from-cross, le-cross, leZ-no, one-part, parts, pos-sub, sub-eq, sub-neg, abs-parts, abs-neg}
 use Rattle.flux.specs.Wave.{waveSpeed}
 use Rattle.flux.specs.Velocity.{velocity}
 use Rattle.flux.specs.Crossing.{waterFlux}
@@ -116,6 +116,41 @@ nearest-within most z =
         let e = pos-cross most in
         let n = neg-cross (pos most) in
         ⊎-elim (λ o. omega (arith, abs-parts z, n .1)) (λ o. omega (arith, abs-parts z)) (one-part z)
+
+-- by parts: either part of z, and no more of it than `most`
+pub nearest-parts : (most : ℕ) (z : ℤ) → nearest most z ≡ subℕ (R z - (R z - most)) (L z - (L z - most))
+unfolding nearest
+nearest-parts most z =
+    by-test (leZ (pos most) z) (λ b. cond b (pos most) (cond (leZ z (negℤ (pos most))) (negℤ (pos most)) z) ≡ subℕ (R z - (R z - most)) (L z - (L z - most)))
+    (λ t. above (le-cross (pos most) z (leZ-yes t)))
+    (λ t. by-test (leZ z (negℤ (pos most))) (λ b. cond b (negℤ (pos most)) z ≡ subℕ (R z - (R z - most)) (L z - (L z - most)))
+    (λ u. beneath (le-cross z (negℤ (pos most)) (leZ-yes u)))
+    (λ u. inside (le-cross z (pos most) (leZ-no (pos most) z t)) (le-cross (negℤ (pos most)) z (leZ-no z (negℤ (pos most)) u))))
+  where
+    e : L (pos most) ≡ 0
+    e = pos-cross most
+
+    n : L (negℤ (pos most)) ≡ most
+    n = neg-cross (pos most) .1
+
+    o : R (negℤ (pos most)) ≡ 0
+    o = neg-cross (pos most) .0 ∙ e
+
+    above : most + L z ≤ R z + L (pos most) → pos most ≡ subℕ (R z - (R z - most)) (L z - (L z - most))
+    above p =
+        pos-sub most
+        ∙ sub-eq most 0 (R z - (R z - most)) (L z - (L z - most)) (⊎-elim (λ w. omega (arith, w, p, e)) (λ w. omega (arith, w, p, e)) (one-part z))
+
+    beneath : R z + L (negℤ (pos most)) ≤ R (negℤ (pos most)) + L z → negℤ (pos most) ≡ subℕ (R z - (R z - most)) (L z - (L z - most))
+    beneath p =
+        ap negℤ (pos-sub most)
+        ∙ sub-neg most 0
+        ∙ sub-eq 0 most (R z - (R z - most)) (L z - (L z - most)) (⊎-elim (λ w. omega (arith, w, p, n, o)) (λ w. omega (arith, w, p, n, o)) (one-part z))
+
+    inside : R z + L (pos most) ≤ most + L z → R (negℤ (pos most)) + L z ≤ R z + L (negℤ (pos most)) → z ≡ subℕ (R z - (R z - most)) (L z - (L z - most))
+    inside p q =
+        parts z
+        ∙ sub-eq (R z) (L z) (R z - (R z - most)) (L z - (L z - most)) (⊎-elim (λ w. omega (arith, w, p, q, e, n, o)) (λ w. omega (arith, w, p, q, e, n, o)) (one-part z))
 
 -- ---- an end beside the cell c, by its kind
 

@@ -1,13 +1,14 @@
 // The water of a step (document 01, 'A water step'): what a cell or an end shows at an interface, and what crosses there.
 ghost use mathlib.Core.Path.{_≡_};
-ghost use Prim.Native.Nat.{_*_, _-_, _≤_};
-ghost use lib.IntN.{natAbs};
+ghost use Prim.Native.Nat.{_*_, _-_, _≤_, _<_};
+ghost use lib.IntN.{natAbs, subℕ};
 ghost use Rattle.flux.specs.Limits.{bedMost, depthMost, velocityMost};
 ghost use Rattle.flux.specs.Crossing.{stillThrust};
 ghost use Rattle.flux.specs.Ranges.{Mesh, Flow};
 ghost use Rattle.flux.specs.Velocity.{velocity};
 ghost use Rattle.water.specs.Ranges.{sideOf, CellFits, Crosses};
 ghost use Rattle.water.specs.Sides.{boundarySide};
+ghost use Rattle.water.specs.Water.{nearest};
 use flux::crossing::still_thrust;
 use flux::interface::Facing;
 use flux::interface::exchange_of;
@@ -15,6 +16,8 @@ use flux::interface::reduced_depth;
 use flux::interface::reduced_wave;
 use flux::velocity::velocity_parts;
 use flux::wave::wave_speed;
+use numbers::signed::excess;
+use numbers::signed::joined;
 use reach::boundary::Boundary;
 use reach::boundary::OPEN;
 use reach::boundary::WALL;
@@ -115,4 +118,14 @@ pub fn crossing_between(t: u64, x: u64, l: Cell, r: Cell) -> Crossing
         lost_left: thrust_lost(t, x, l.depth, l.wave, hl, al),
         lost_right: thrust_lost(t, x, r.depth, r.wave, hr, ar),
     }
+}
+
+// right − left, moved to the nearest value in −most..most
+pub fn nearest_in(right: u64, left: u64, most: u64) -> i64
+    requires { ⌜ most < 9_223_372_036_854_775_808 ⌝ }
+    ensures { λ r. ⌜ r ≡ nearest most (subℕ right left) ⌝ }
+{
+    let r = excess(right, left);
+    let l = excess(left, right);
+    joined(r - excess(r, most), l - excess(l, most))
 }
