@@ -1,7 +1,7 @@
 // The water of a step (document 01, 'A water step'): what a cell or an end shows at an interface, and what crosses there.
 ghost use mathlib.Core.Path.{_≡_};
 ghost use Prim.Native.Nat.{_*_, _-_, _≤_, _<_};
-ghost use lib.IntN.{natAbs, subℕ};
+ghost use lib.IntN.{pos, _+ℤ_, _-ℤ_, natAbs, subℕ};
 ghost use Rattle.flux.specs.Limits.{bedMost, depthMost, velocityMost};
 ghost use Rattle.flux.specs.Crossing.{stillThrust};
 ghost use Rattle.flux.specs.Ranges.{Mesh, Flow};
@@ -18,6 +18,8 @@ use flux::velocity::velocity_parts;
 use flux::wave::wave_speed;
 use numbers::signed::excess;
 use numbers::signed::joined;
+use numbers::signed::left_part;
+use numbers::signed::right_part;
 use reach::boundary::Boundary;
 use reach::boundary::OPEN;
 use reach::boundary::WALL;
@@ -128,4 +130,12 @@ pub fn nearest_in(right: u64, left: u64, most: u64) -> i64
     let r = excess(right, left);
     let l = excess(left, right);
     joined(r - excess(r, most), l - excess(l, most))
+}
+
+// q with what is gained and lost of it, moved to the range of a depth h
+pub fn discharge_after(q: i64, gained: u64, lost: u64, h: u64) -> i64
+    requires { ⌜ (natAbs q ≤ velocityMost * depthMost) × ((gained < 9_223_372_036_854_775_808) × ((lost < 9_223_372_036_854_775_808) × (h ≤ depthMost))) ⌝ }
+    ensures { λ r. ⌜ r ≡ nearest (velocityMost * h) (q +ℤ pos gained -ℤ pos lost) ⌝ }
+{
+    nearest_in(right_part(q) + gained, left_part(q) + lost, 8_000 * h)
 }
