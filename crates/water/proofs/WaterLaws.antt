@@ -11,14 +11,15 @@ use Rattle.numbers.proofs.SearchLaws.{by-test}
 use Rattle.numbers.proofs.SignedLaws.{R, L, right-sub, left-sub, pos-cross, neg-cross, add-cross, minus-cross, from-cross, le-cross, leZ-no, one-part, parts, pos-sub, sub-eq, sub-neg, abs-parts, abs-neg}
 use Rattle.flux.specs.Wave.{waveSpeed}
 use Rattle.flux.specs.Velocity.{velocity}
-use Rattle.flux.specs.Crossing.{waterFlux}
+use Rattle.flux.specs.Crossing.{waterFlux, stillThrust}
 use Rattle.flux.specs.Interface.{Side, leftDepth, rightDepth, netWater, mirrored}
-use Rattle.flux.proofs.InterfaceLaws.{net-water-is, wall-passes-nothing, cell-outflow-le-depth}
+use Rattle.flux.proofs.CrossingLaws.{still-thrust-mono}
+use Rattle.flux.proofs.InterfaceLaws.{reduced-depth-le, net-water-is, wall-passes-nothing, cell-outflow-le-depth}
 use Rattle.reach.specs.Limits.{wall, openEnd}
 use Rattle.reach.specs.declared.boundary.Boundary.{Boundary}
-use Rattle.reach.specs.Reach.{Reach, cells, depthAt, dischargeAt, leftEnd, rightEnd}
+use Rattle.reach.specs.Reach.{Reach, cells, bedAt, depthAt, dischargeAt, leftEnd, rightEnd}
 use Rattle.water.specs.Sides.{cellSide, boundarySide, leftSide, rightSide}
-use Rattle.water.specs.Water.{netAt, newDepth, nearest}
+use Rattle.water.specs.Water.{netAt, momentumAt, ownLeft, ownRight, newDepth, pushed, nearest}
 
 -- what either side of interface i sends over it
 unfoldable pub rightward : Reach → (t i : ℕ) → ℕ
@@ -99,6 +100,57 @@ wall-right s t n w = go (cells s) n refl
     go : (m : ℕ) → 0 < m → cells s ≡ m → netWater t (s .cellLength) (leftSide s m) (rightSide s m) ≡ pos 0
     go zero p e = absurd (omega arith)
     go (suc i) p e = last-wall s t i e w
+
+-- ---- q' by what the bed takes of the thrust at either interface
+
+own-left-le : (s : Reach) (i : ℕ) → i < cells s → ownLeft s i ≤ depthAt s i
+unfolding ownLeft rightDepth cellSide
+own-left-le s i l = rw (right-side-cell s i l) (reduced-depth-le (depthAt s i) (bedAt s i) (leftSide s i .bed))
+
+own-right-le : (s : Reach) (i : ℕ) → ownRight s i ≤ depthAt s i
+unfolding ownRight leftDepth cellSide
+own-right-le s i = rw (left-side-cell s i) (reduced-depth-le (depthAt s i) (bedAt s i) (rightSide s (suc i) .bed))
+
+by-what-is-lost : (q : ℤ) (p r h own-l own-r : ℕ) → own-l ≤ h → own-r ≤ h
+    → q +ℤ pos p -ℤ pos r +ℤ pos own-r -ℤ pos own-l ≡ q +ℤ pos (p + (h - own-l)) -ℤ pos (r + (h - own-r))
+by-what-is-lost q p r h own-l own-r a b =
+    from-cross _ _
+    (omega (
+      arith,
+      a,
+      b,
+      add-cross q (pos p),
+      minus-cross (q +ℤ pos p) (pos r),
+      add-cross (q +ℤ pos p -ℤ pos r) (pos own-r),
+      minus-cross (q +ℤ pos p -ℤ pos r +ℤ pos own-r) (pos own-l),
+      add-cross q (pos (p + (h - own-l))),
+      minus-cross (q +ℤ pos (p + (h - own-l))) (pos (r + (h - own-r))),
+      pos-cross p,
+      pos-cross r,
+      pos-cross own-l,
+      pos-cross own-r,
+      pos-cross (p + (h - own-l)),
+      pos-cross (r + (h - own-r)),
+    ))
+
+-- the sum gains P and what is lost at the left, and loses P and what is lost at the right
+pub pushed-is : (s : Reach) (t i : ℕ) → i < cells s
+    → pushed s t i
+    ≡ dischargeAt s i
+    +ℤ pos (momentumAt s t i + (stillThrust t (s .cellLength) (depthAt s i) - stillThrust t (s .cellLength) (ownLeft s i)))
+    -ℤ pos (momentumAt s t (suc i) + (stillThrust t (s .cellLength) (depthAt s i) - stillThrust t (s .cellLength) (ownRight s i)))
+unfolding pushed
+pushed-is s t i l =
+    let X = s .cellLength in
+    by-what-is-lost
+    (dischargeAt s i)
+    (momentumAt s t i)
+    (momentumAt s t (suc i))
+    (stillThrust t X (depthAt s i))
+    (stillThrust t X (ownLeft s i))
+    (stillThrust t X (ownRight s i))
+    (still-thrust-mono t X (ownLeft s i) (depthAt s i) (own-left-le s i l))
+    (still-thrust-mono t X (ownRight s i) (depthAt s i) (own-right-le s i))
 
 -- ---- the nearest value lies in the range
 
