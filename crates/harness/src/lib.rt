@@ -8,6 +8,9 @@ ghost use Rattle.flux.specs.Velocity.{velocity};
 ghost use Rattle.flux.specs.Crossing.{waterFlux, momentumFlux, stillThrust};
 ghost use Rattle.flux.specs.Interface.{reducedDepth, netWater, momentumSum};
 ghost use Rattle.flux.specs.Ranges.{Mesh};
+ghost use Rattle.reach.specs.Reach.{reachOf};
+ghost use Rattle.transport.specs.Calls.{setBoundaries, transport as transportOf, CameTo};
+ghost use Rattle.stepping.specs.GreatestStep.{greatest};
 ghost use Rattle.harness.specs.Sides.{InRange, FacingIs, side};
 use flux::crossing::crossing_of;
 use flux::crossing::still_thrust;
@@ -131,7 +134,9 @@ pub extern "C" fn harness_transport(
     x: u64,
     held: Pair,
     ledger: Ledger,
-) -> Answer {
+) -> Answer
+    ensures { λ r. ⌜ CameTo (transportOf (reachOf (now (z .entry)) (now (h .entry)) (now (q .entry)) (now (m .entry)) (now (b .entry)) (now (c .entry)) x (held .ends) ledger)) r (now (m .exit)) (now (b .exit)) (now (c .exit)) ⌝ }
+{
     let ends = held.ends;
     transport::transport(z, h, q, m, b, c, x, ends, ledger)
 }
@@ -148,7 +153,9 @@ pub extern "C" fn harness_set_boundaries(
     held: Pair,
     ledger: Ledger,
     new: Pair,
-) -> Answer {
+) -> Answer
+    ensures { λ r. ⌜ CameTo (setBoundaries (reachOf (now (z .entry)) (now (h .entry)) (now (q .entry)) (now (m .entry)) (now (b .entry)) (now (c .entry)) x (held .ends) ledger) (new .ends)) r (now (m .exit)) (now (b .exit)) (now (c .exit)) ⌝ }
+{
     let ends = held.ends;
     let given = new.ends;
     transport::set_boundaries(z, h, q, m, b, c, x, ends, ledger, given)
@@ -165,7 +172,9 @@ pub extern "C" fn harness_greatest_step(
     x: u64,
     held: Pair,
     ledger: Ledger,
-) -> Greatest {
+) -> Greatest
+    ensures { λ r. ⌜ r ≡ greatest (reachOf (now (z .entry)) (now (h .entry)) (now (q .entry)) (now (m .entry)) (now (b .entry)) (now (c .entry)) x (held .ends) ledger) ⌝ }
+{
     let ends = held.ends;
     stepping::greatest_step(z, h, q, m, b, c, x, ends, ledger)
 }
