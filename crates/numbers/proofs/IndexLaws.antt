@@ -98,6 +98,14 @@ module _ {A : Type 0} (z : A) (f : ℕ → A) (d : List A) where
   pub written-all : (i : ℕ) (l : List A) → Written z f d i l → i ≡ length d → l ≡ tabulate (length d) f
   written-all i l w e = by-index (length d) f z l (w .long) (λ k q. w .done k (omega arith))
 
+-- the first entry by itself, for a loop that starts after it
+pub written-first : {A : Type 0} (z : A) (f : ℕ → A) (l : List A) (v : A) → 0 < length l → v ≡ f 0 → Written z f (set l 0 v) 1 (set l 0 v)
+written-first z f l v p e = record {
+  long = refl;
+  done = λ k q. let n : k ≡ 0 = omega arith in rw n (getD-set-same l 0 v z p ∙ e);
+  same = λ k q. refl;
+}
+
 -- ---- sums
 
 -- what crosses from one index to the next cancels: a runs up, b runs down

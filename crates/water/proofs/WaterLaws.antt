@@ -1,25 +1,35 @@
 -- Laws of the water of a step: no depth goes below zero, and a wall passes nothing. Assumes nothing.
-use mathlib.Core.Path.{_≡_, refl, sym, ap, _∙_}
-use mathlib.Core.Bool.{cond}
+use mathlib.Core.Path.{_≡_, refl, sym, ap, ap₂, _∙_}
+use mathlib.Core.Bool.{Bool, true, false, cond, _&&_}
 use mathlib.Core.Logic.{⊎-elim}
 use Prim.Native.Nat.{ℕ, zero, suc, _+_, _-_, _*_, _≤_, _<_}
 use native.Mathlib.Omega.{arith}
+use native.Mathlib.Nat.{le-trans}
+use native.Mathlib.Numerals.{add-one}
+use lib.Dec.{ltb}
 use borrow.Author.Tests.{lt-ltb, le-ltb, eq-eqb, ne-eqb}
 use lib.IntN.{ℤ, pos, _+ℤ_, _-ℤ_, negℤ, subℕ, natAbs}
 use lib.Signed.{leZ, leZ-yes}
-use Rattle.numbers.proofs.SearchLaws.{by-test}
-use Rattle.numbers.proofs.SignedLaws.{R, L, right-sub, left-sub, pos-cross, neg-cross, add-cross, minus-cross, from-cross, le-cross, leZ-no, one-part, parts, pos-sub, sub-eq, sub-neg, abs-parts, abs-neg}
+use Rattle.numbers.specs.Index.{allBelow}
+use Rattle.numbers.specs.Signed.{positive}
+use Rattle.numbers.proofs.SearchLaws.{by-test, by-less}
+use Rattle.numbers.proofs.SignedLaws.{R, L, right-sub, left-sub, pos-cross, neg-cross, add-cross, minus-cross, from-cross, le-cross, leZ-no, one-part, parts, pos-sub, sub-add, sub-minus, sub-eq, sub-neg, abs-parts, abs-neg, abs-sub}
 use Rattle.flux.specs.Wave.{waveSpeed}
 use Rattle.flux.specs.Velocity.{velocity}
 use Rattle.flux.specs.Crossing.{waterFlux, stillThrust}
-use Rattle.flux.specs.Interface.{Side, leftDepth, rightDepth, netWater, mirrored}
-use Rattle.flux.proofs.CrossingLaws.{still-thrust-mono}
+use Rattle.flux.specs.Interface.{Side, reducedDepth, leftDepth, rightDepth, netWater, momentumSum, mirrored}
+use Rattle.flux.specs.Limits.{depthMost, velocityMost}
+use Rattle.flux.specs.Ranges.{Mesh}
+use Rattle.flux.proofs.CrossingLaws.{still-thrust-mono, still-thrust-most, water-flux-most, momentum-flux-most}
 use Rattle.flux.proofs.InterfaceLaws.{reduced-depth-le, net-water-is, wall-passes-nothing, cell-outflow-le-depth}
 use Rattle.reach.specs.Limits.{wall, openEnd}
 use Rattle.reach.specs.declared.boundary.Boundary.{Boundary}
 use Rattle.reach.specs.Reach.{Reach, cells, bedAt, depthAt, dischargeAt, leftEnd, rightEnd}
 use Rattle.water.specs.Sides.{cellSide, boundarySide, leftSide, rightSide}
-use Rattle.water.specs.Water.{netAt, momentumAt, ownLeft, ownRight, newDepth, pushed, nearest}
+use Rattle.water.specs.Water.{netAt, momentumAt, ownLeft, ownRight, newDepth, pushed, nearest, newDischarge}
+use Rattle.water.specs.Ranges.{sideOf, CellFits, Crosses, CrossingFits}
+use Rattle.water.specs.declared.Cell.{Cell}
+use Rattle.water.specs.declared.Crossing.{Crossing}
 
 -- what either side of interface i sends over it
 unfoldable pub rightward : Reach → (t i : ℕ) → ℕ
@@ -218,3 +228,85 @@ pub boundary-fed : (e : Boundary) (c : Side) → (e .kind ≡ wall → ⊥) → 
     → boundarySide e c ≡ record { bed = c .bed; depth = e .depth; velocity = velocity (e .depth) (e .discharge) }
 unfolding boundarySide
 boundary-fed e c w o = rw (ne-eqb _ _ w, ne-eqb _ _ o) refl
+
+-- ---- amounts of a crossing are small
+
+side-velocity : (c : Cell) → CellFits c → natAbs (sideOf c .velocity) ≤ velocityMost
+side-velocity c f =
+    let r = f .right-most in
+    let l = f .left-most in
+    omega (arith, abs-sub (c .right) (c .left))
+
+pub crossing-fits : {t X : ℕ} (c : Crossing) {l r : Cell} → Mesh t X → CellFits l → CellFits r
+    → Crosses t X (sideOf l) (sideOf r) (c .rightward) (c .leftward) (c .momentum) (c .«lost_left») (c .«lost_right») → CrossingFits c
+unfolding momentumSum leftDepth rightDepth
+crossing-fits {t} {X} c {l} {r} g fl fr k =
+    let ul = subℕ (l .right) (l .left) in
+    let ur = subℕ (r .right) (r .left) in
+    let hl = reducedDepth (l .depth) (l .bed) (r .bed) in
+    let hr = reducedDepth (r .depth) (r .bed) (l .bed) in
+    let dl : hl ≤ depthMost = le-trans (reduced-depth-le (l .depth) (l .bed) (r .bed)) (fl .depth) in
+    let dr : hr ≤ depthMost = le-trans (reduced-depth-le (r .depth) (r .bed) (l .bed)) (fr .depth) in
+    let vl = side-velocity l fl in
+    let vr : natAbs (negℤ ur) ≤ velocityMost = omega (arith, abs-neg ur, side-velocity r fr) in
+    record {
+      rightward-most = omega (arith, k .rightward-is, water-flux-most t X hl ul g dl vl);
+      leftward-most = omega (arith, k .leftward-is, water-flux-most t X hr (negℤ ur) g dr vr);
+      momentum-most = omega (arith, k .momentum-is, momentum-flux-most t X hl ul g dl vl, momentum-flux-most t X hr (negℤ ur) g dr vr);
+      lost-left-most = omega (arith, k .lost-left-is, still-thrust-most t X (l .depth) g (fl .depth));
+      lost-right-most = omega (arith, k .lost-right-is, still-thrust-most t X (r .depth) g (fr .depth));
+    }
+
+-- ---- what the sweep carries from an interface to the next
+
+pub crosses-at : {t X a b p d e : ℕ} {l r l' r' : Side} → l ≡ l' → r ≡ r' → Crosses t X l r a b p d e → Crosses t X l' r' a b p d e
+crosses-at e f k = rw (← e, ← f) k
+
+pub left-side-next : (s : Reach) (i : ℕ) → leftSide s (i + 1) ≡ cellSide s i
+left-side-next s i = rw (add-one i) (left-side-cell s i)
+
+-- the right side of the next interface: the next cell, or the right boundary beside this one
+pub right-side-next : (s : Reach) (i : ℕ) (c : Side) → i < cells s → c ≡ cellSide s i
+    → cond (ltb (i + 1) (cells s)) (cellSide s (i + 1)) (boundarySide (rightEnd (s .ends)) c) ≡ rightSide s (i + 1)
+unfolding rightSide
+right-side-next s i c l e =
+    by-less (i + 1) (cells s) (λ b. cond b (cellSide s (i + 1)) (boundarySide (rightEnd (s .ends)) c) ≡ cond b (cellSide s (i + 1)) (boundarySide (rightEnd (s .ends)) (cellSide s (cells s - 1))))
+    (λ k. refl)
+    (λ k. let n : i ≡ cells s - 1 = omega arith in ap (boundarySide (rightEnd (s .ends))) (e ∙ ap (cellSide s) n))
+
+module _ (s : Reach) (t : ℕ) where
+  pub net-by-crossing : (i : ℕ) {a b p d e : ℕ} → Crosses t (s .cellLength) (leftSide s i) (rightSide s i) a b p d e → netAt s t i ≡ subℕ a b
+  unfolding rightward leftward
+  net-by-crossing i k = net-is s t i ∙ sym (ap₂ subℕ (k .rightward-is) (k .leftward-is))
+
+  module _ (i : ℕ) {a b p d e a' b' p' d' e' : ℕ} (l : i < cells s)
+      (k : Crosses t (s .cellLength) (leftSide s i) (rightSide s i) a b p d e)
+      (k' : Crosses t (s .cellLength) (leftSide s (i + 1)) (rightSide s (i + 1)) a' b' p' d' e') where
+    pub depth-by-crossings : positive (newDepth s t i) ≡ depthAt s i + a + b' - (b + a')
+    unfolding newDepth
+    depth-by-crossings =
+        let n : netAt s t (suc i) ≡ subℕ a' b' = rw (add-one i) at (net-by-crossing (i + 1) k') in
+        rw (net-by-crossing i k, n, pos-sub (depthAt s i), sub-add (depthAt s i) 0 a b, sub-minus (depthAt s i + a) (0 + b) a' b')
+        (omega (arith, right-sub (depthAt s i + a + b') (0 + b + a')))
+
+    lost-left : e ≡ stillThrust t (s .cellLength) (depthAt s i) - stillThrust t (s .cellLength) (ownLeft s i)
+    unfolding ownLeft cellSide
+    lost-left =
+        k .lost-right-is
+        ∙ ap (λ (c : Side). stillThrust t (s .cellLength) (c .depth) - stillThrust t (s .cellLength) (rightDepth (leftSide s i) (rightSide s i))) (right-side-cell s i l)
+
+    lost-right : d' ≡ stillThrust t (s .cellLength) (depthAt s i) - stillThrust t (s .cellLength) (ownRight s i)
+    unfolding ownRight cellSide leftSide
+    lost-right = rw (add-one i) at (k' .lost-left-is)
+
+    pub discharge-by-crossings : newDischarge s t i ≡ nearest (velocityMost * (depthAt s i + a + b' - (b + a'))) (dischargeAt s i +ℤ pos (p + e) -ℤ pos (p' + d'))
+    unfolding newDischarge momentumAt
+    discharge-by-crossings =
+        let m : p' ≡ momentumAt s t (suc i) = rw (add-one i) at (k' .momentum-is) in
+        rw (pushed-is s t i l, depth-by-crossings, ← lost-left, ← lost-right, ← m, ← k .momentum-is) refl
+
+-- CFL at one side more
+pub meets-more : (first : Bool) (f : ℕ → Bool) (i : ℕ) → ((first && allBelow (i + 1) f) && f (i + 1)) ≡ (first && allBelow (i + 1 + 1) f)
+unfolding allBelow
+meets-more true f i = rw (add-one (i + 1)) refl
+meets-more false f i = refl

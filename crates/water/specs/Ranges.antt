@@ -1,12 +1,24 @@
 -- What the functions of this crate require and give: the side of an interface that a cell or an end shows, in numbers.
 use mathlib.Core.Path.{_≡_}
-use Prim.Native.Nat.{ℕ, _-_, _≤_}
-use lib.IntN.{natAbs, negℤ, subℕ}
+use mathlib.Core.Bool.{Bool, _&&_}
+use mathlib.Core.List.{List, []}
+use Prim.Native.Nat.{ℕ, suc, _+_, _-_, _*_, _≤_, _<_}
+use lib.Dec.{leb}
+use lib.IntN.{ℤ, pos, natAbs, negℤ, subℕ}
+use lib.ListN.{length, getD}
+use Rattle.numbers.specs.Index.{allBelow}
+use Rattle.numbers.specs.Signed.{positive}
 use Rattle.flux.specs.Limits.{bedMost, depthMost, velocityMost}
 use Rattle.flux.specs.Crossing.{waterFlux, stillThrust}
 use Rattle.flux.specs.Interface.{Side, leftDepth, rightDepth, momentumSum}
 use Rattle.flux.specs.Wave.{waveSpeed}
+use Rattle.reach.specs.Reach.{Reach, reachOf, cells, bedAt, depthAt, dischargeAt, leftEnd, rightEnd}
+use Rattle.reach.specs.declared.boundary.Boundary.{Boundary}
+use Rattle.reach.specs.declared.ledger.Totals.{Totals}
+use Rattle.water.specs.Sides.{leftSide, rightSide}
+use Rattle.water.specs.Water.{netAt, newDepth, newDischarge}
 use Rattle.water.specs.declared.Cell.{Cell}
+use Rattle.water.specs.declared.Crossing.{Crossing}
 
 -- the side that a cell is
 abbrev pub sideOf : Cell → Side
@@ -27,3 +39,54 @@ pub record Crosses (t X : ℕ) (l r : Side) (rightward leftward momentum lostLef
   pub momentum-is : momentum ≡ momentumSum t X l r
   pub lost-left-is : lostLeft ≡ stillThrust t X (l .depth) - stillThrust t X (leftDepth l r)
   pub lost-right-is : lostRight ≡ stillThrust t X (r .depth) - stillThrust t X (rightDepth l r)
+
+-- bounds of those amounts, far below what 64 bits hold
+abbrev pub fluxMost : ℕ
+fluxMost = 640_000_000
+
+abbrev pub thrustMost : ℕ
+thrustMost = 20_480_000_000_000
+
+pub record CrossingFits (c : Crossing) : Type 0 where
+  pub rightward-most : c .rightward ≤ fluxMost
+  pub leftward-most : c .leftward ≤ fluxMost
+  pub momentum-most : c .momentum ≤ thrustMost
+  pub lost-left-most : c .«lost_left» ≤ thrustMost
+  pub lost-right-most : c .«lost_right» ≤ thrustMost
+
+-- ---- a whole reach
+
+-- a record of which a step reads the water alone: what it holds besides does not matter (`same-net`, `same-depth`, `same-discharge`)
+abbrev pub flowOf : List ℤ → List ℕ → List ℤ → ℕ → List Boundary → Reach
+flowOf z h q X es =
+    let none : Totals = record { «water_in» = 0; «water_out» = 0; «mass_in» = 0; «mass_out» = 0 } in
+    reachOf z h q [] [] [] X es (record { left = none; right = none })
+
+-- bed level, depth and discharge in range
+abbrev pub InRange : ℤ → ℕ → ℤ → Type 0
+InRange z h q = (natAbs z ≤ bedMost) × ((h ≤ depthMost) × (natAbs q ≤ velocityMost * h))
+
+-- what the sweep requires of a record's water
+pub record FlowFits (s : Reach) : Type 0 where
+  pub some : 1 ≤ cells s
+  -- far above any reach: an index fits its type
+  pub few : cells s ≤ 1_000_000
+  pub depths : length (s .depth) ≡ cells s
+  pub discharges : length (s .discharge) ≡ cells s
+  pub cell : (i : ℕ) → i < cells s → InRange (bedAt s i) (depthAt s i) (dischargeAt s i)
+  pub left : (leftEnd (s .ends) .depth ≤ depthMost) × (natAbs (leftEnd (s .ends) .discharge) ≤ velocityMost * leftEnd (s .ends) .depth)
+  pub right : (rightEnd (s .ends) .depth ≤ depthMost) × (natAbs (rightEnd (s .ends) .discharge) ≤ velocityMost * rightEnd (s .ends) .depth)
+
+-- |u|+a of a side meets CFL
+unfoldable pub sideMeets : (t X : ℕ) → Side → Bool
+sideMeets t X s = leb (t * (natAbs (s .velocity) + waveSpeed (s .depth))) (1_000 * X)
+
+-- of every side: the left boundary, each cell, the right boundary. A wall and an open end show their cell's speed, so that they add nothing
+unfoldable pub sidesMeet : Reach → (t : ℕ) → Bool
+sidesMeet s t = sideMeets t (s .cellLength) (leftSide s 0) && allBelow (suc (cells s)) (λ i. sideMeets t (s .cellLength) (rightSide s i))
+
+-- what the sweep gives: N at each interface, and depth and discharge of each cell after the step
+pub record Swept (s : Reach) (t : ℕ) (net : List ℤ) (depth : List ℕ) (discharge : List ℤ) : Type 0 where
+  pub nets : (i : ℕ) → i ≤ cells s → getD net i (pos 0) ≡ netAt s t i
+  pub depths : (i : ℕ) → i < cells s → getD depth i 0 ≡ positive (newDepth s t i)
+  pub discharges : (i : ℕ) → i < cells s → getD discharge i (pos 0) ≡ newDischarge s t i

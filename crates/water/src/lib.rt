@@ -1,4 +1,6 @@
 // The water of a step (document 01, 'A water step'): what a cell or an end shows at an interface, and what crosses there.
+pub mod sweep;
+
 ghost use mathlib.Core.Path.{_≡_};
 ghost use Prim.Native.Nat.{_*_, _-_, _≤_, _<_};
 ghost use lib.IntN.{pos, _+ℤ_, _-ℤ_, natAbs, subℕ};
@@ -6,7 +8,7 @@ ghost use Rattle.flux.specs.Limits.{bedMost, depthMost, velocityMost};
 ghost use Rattle.flux.specs.Crossing.{stillThrust};
 ghost use Rattle.flux.specs.Ranges.{Mesh, Flow};
 ghost use Rattle.flux.specs.Velocity.{velocity};
-ghost use Rattle.water.specs.Ranges.{sideOf, CellFits, Crosses};
+ghost use Rattle.water.specs.Ranges.{sideOf, CellFits, Crosses, CrossingFits};
 ghost use Rattle.water.specs.Sides.{boundarySide};
 ghost use Rattle.water.specs.Water.{nearest};
 use flux::crossing::still_thrust;
@@ -91,7 +93,7 @@ pub struct Crossing {
 
 pub fn crossing_between(t: u64, x: u64, l: Cell, r: Cell) -> Crossing
     requires { ⌜ Mesh t x × (CellFits l × CellFits r) ⌝ }
-    ensures { λ c. ⌜ Crosses t x (sideOf l) (sideOf r) (c .rightward) (c .leftward) (c .momentum) (c .«lost_left») (c .«lost_right») ⌝ }
+    ensures { λ c. ⌜ Crosses t x (sideOf l) (sideOf r) (c .rightward) (c .leftward) (c .momentum) (c .«lost_left») (c .«lost_right») × CrossingFits c ⌝ }
 {
     let hl = reduced_depth(l.depth, l.bed, r.bed);
     let hr = reduced_depth(r.depth, r.bed, l.bed);
@@ -134,7 +136,7 @@ pub fn nearest_in(right: u64, left: u64, most: u64) -> i64
 
 // q with what is gained and lost of it, moved to the range of a depth h
 pub fn discharge_after(q: i64, gained: u64, lost: u64, h: u64) -> i64
-    requires { ⌜ (natAbs q ≤ velocityMost * depthMost) × ((gained < 9_223_372_036_854_775_808) × ((lost < 9_223_372_036_854_775_808) × (h ≤ depthMost))) ⌝ }
+    requires { ⌜ (natAbs q ≤ velocityMost * depthMost) × ((gained < 9_223_372_036_854_775_808) × ((lost < 9_223_372_036_854_775_808) × (h ≤ 2_000_000_000))) ⌝ }
     ensures { λ r. ⌜ r ≡ nearest (velocityMost * h) (q +ℤ pos gained -ℤ pos lost) ⌝ }
 {
     nearest_in(right_part(q) + gained, left_part(q) + lost, 8_000 * h)

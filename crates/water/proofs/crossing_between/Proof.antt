@@ -11,6 +11,8 @@ use Rattle.flux.specs.Interface.{reducedDepth, leftDepth, rightDepth, momentumS
 use Rattle.flux.specs.Ranges.{Flow}
 use Rattle.flux.specs.Wave.{waveSpeed}
 use Rattle.flux.proofs.InterfaceLaws.{reduced-depth-le}
+use Rattle.water.specs.Ranges.{sideOf, Crosses}
+use Rattle.water.proofs.WaterLaws.{crossing-fits}
 use borrow.Author.Needs.{needs}
 use Rattle.water.proofs.crossing_between.Statement.{statement}
 use Rattle.water.proofs.crossing_between.Tie as tie
@@ -109,13 +111,14 @@ returns c =
     let water : ℕ → ℤ → ℕ = λ h u. waterFlux (s .t) (s .x) h u in
     let push : ℕ → ℤ → ℕ = λ h u. momentumFlux (s .t) (s .x) h u in
     let ul = subℕ (s .l .right) (s .l .left) in
-    record {
+    let crosses : Crosses (s .t) (s .x) (sideOf (s .l)) (sideOf (s .r)) _ _ _ _ _ = record {
       rightward-is = e .0 ∙ ap (λ (h : ℕ). water h ul) hl;
       leftward-is = e .1 .0 ∙ ap₂ water hr turned;
       momentum-is = e .1 .1 ∙ ap₂ _+_ (ap (λ (h : ℕ). push h ul) hl) (ap₂ push hr turned);
       lost-left-is = c .before .thrust-lost .ensures ∙ ap (λ (h : ℕ). stillThrust (s .t) (s .x) (s .l .depth) - stillThrust (s .t) (s .x) h) hl;
       lost-right-is = c .thrust-lost2 .ensures ∙ ap (λ (h : ℕ). stillThrust (s .t) (s .x) (s .r .depth) - stillThrust (s .t) (s .x) h) hr;
-    }
+    } in
+    (crosses, crossing-fits _ (entry (b .before .before .before) .pre .0) (entry (b .before .before .before) .pre .1 .0) (entry (b .before .before .before) .pre .1 .1) crosses)
 
 pub crossing-between-spec : {M : Type 1} → statement M
 crossing-between-spec =

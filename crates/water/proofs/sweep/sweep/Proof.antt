@@ -1,0 +1,336 @@
+-- `water::sweep::sweep` meets its contract. The loop carries the cell at hand with what crosses at its left; what it has passed is written as
+-- the definitions say. Assumes nothing.
+use mathlib.Core.Path.{_≡_, refl, sym, ap, ap₂, _∙_}
+use mathlib.Core.Bool.{Bool, _&&_}
+use Prim.Native.Nat.{ℕ, suc, _+_, _-_, _*_, _≤_, _<_}
+use native.Mathlib.Numerals.{add-one}
+use native.Mathlib.Omega.{arith}
+use denote.Ref.{now}
+use lib.IntN.{ℤ, pos}
+use lib.ListN.{length, getD, length-set}
+use mir.Facts.{toZ-ofZ}
+use mir.Syntax.{w64}
+use mir.Val.{toZ, ofZ}
+use borrow.Author.Needs.{needs, sfits-of}
+use Rattle.numbers.specs.Index.{allBelow}
+use Rattle.numbers.specs.Signed.{positive}
+use Rattle.numbers.proofs.IndexLaws.{Written, written-none, written-first, written-more}
+use Rattle.reach.specs.Reach.{Reach, cells, rightEnd}
+use Rattle.water.specs.Sides.{cellSide, boundarySide, leftSide, rightSide}
+use Rattle.water.specs.Water.{netAt, newDepth, newDischarge}
+use Rattle.water.specs.Ranges.{sideOf, CellFits, Crosses, CrossingFits, flowOf, sideMeets, sidesMeet}
+use Rattle.water.proofs.WaterLaws.{right-side-cell, crosses-at, left-side-next, right-side-next, net-by-crossing, depth-by-crossings, discharge-by-crossings, meets-more}
+use Rattle.water.proofs.sweep.sweep.Statement.{statement}
+use Rattle.water.proofs.sweep.sweep.Tie as tie
+
+abbrev Inv-loop : tie.InvT-loop
+Inv-loop t x z h q net₀ depth₀ discharge₀ ends n cell₀ met₀ left₀ i₀ net depth discharge cell met left i =
+    let s = flowOf z h q x ends in
+    (i ≤ n)
+    × Written (pos 0) (netAt s t) net₀ (i + 1) net
+    × Written 0 (λ k. positive (newDepth s t k)) depth₀ i depth
+    × Written (pos 0) (newDischarge s t) discharge₀ i discharge
+    × CellFits cell
+    × (sideOf cell ≡ rightSide s i)
+    × Crosses t x (leftSide s i) (rightSide s i) (left .rightward) (left .leftward) (left .momentum) (left .«lost_left») (left .«lost_right»)
+    × CrossingFits left
+    × (met ≡ (sideMeets t x (leftSide s 0) && allBelow (i + 1) (λ k. sideMeets t x (rightSide s k))))
+
+abbrev μ-loop : tie.MeasureT-loop
+μ-loop t x z h q net₀ depth₀ discharge₀ ends n cell₀ met₀ left₀ i₀ net depth discharge cell met left i = n - i
+
+abbrev entry : tie.After-net-of Inv-loop μ-loop → tie.Start Inv-loop μ-loop
+entry c = c .before .before .before .before .before .before .before .before .before .before .before .before
+
+abbrev start : tie.In-loop Inv-loop μ-loop → tie.Start Inv-loop μ-loop
+start c = entry (c .before .before)
+
+abbrev flow : tie.Start Inv-loop μ-loop → Reach
+flow s = flowOf (now (s .args .z)) (now (s .args .h)) (now (s .args .q)) (s .args .x) (s .args .t6)
+
+-- the first cell and the left boundary beside it
+first : (c : tie.After-cell-of Inv-loop μ-loop) → CellFits (c .cell-of .result) × (sideOf (c .cell-of .result) ≡ cellSide (flow (c .before .before .before .before .before .before)) 0)
+unfolding cellSide
+first c = rw (toZ-ofZ (sfits-of (c .before .before .before .cell-of-arg .given)), toZ-ofZ (sfits-of (c .before .cell-of-arg2 .given))) at (c .cell-of .ensures)
+
+beyond : (c : tie.After-boundary-cell Inv-loop μ-loop) → CellFits (c .boundary-cell .result) × (sideOf (c .boundary-cell .result) ≡ leftSide (flow (c .before .before .before .before .before .before .before .before)) 0)
+unfolding leftSide
+beyond c = (c .boundary-cell .ensures .0, c .boundary-cell .ensures .1 ∙ ap (boundarySide _) (first (c .before .before) .1))
+
+-- the cell at hand and what stands at its right
+index : (c : tie.In-loop Inv-loop μ-loop) → (c .before .loop .i < cells (flow (start c))) × (c .before .loop .i < 1_000_000)
+index c = let f = start c .pre .0 .1 .few in let l = c .loop-test .taken in (l, omega (arith, l, f))
+
+-- N of the first interface as it is stored
+abbrev stored : tie.After-net-of Inv-loop μ-loop → ℤ
+stored c = toZ w64 (ofZ w64 (c .net-of .result))
+
+-- the interface written before the loop changed no length
+net-length : (c : tie.In-loop Inv-loop μ-loop) → length (c .before .loop .net) ≡ length (now (start c .args .net))
+net-length c = c .before .loop .inv .1 .long ∙ length-set (now (start c .args .net)) 0 (stored (c .before .before))
+
+here : (c : tie.In-loop Inv-loop μ-loop) → sideOf (c .before .loop .cell) ≡ cellSide (flow (start c)) (c .before .loop .i)
+here c = c .before .loop .inv .5 ∙ right-side-cell (flow (start c)) (c .before .loop .i) (index c .0)
+
+next : (c : tie.After-right-side Inv-loop μ-loop) →
+    let s = flow (start (c .before .before)) in
+    CellFits (c .right-side .result) × (sideOf (c .right-side .result) ≡ rightSide s (c .before .before .before .loop .i + 1))
+unfolding cellSide
+next c =
+    let k = c .before .before in
+    let e = c .right-side .ensures in
+    (e .0, e .1 ∙ right-side-next (flow (start k)) (k .before .loop .i) (sideOf (k .before .loop .cell)) (index k .0) (here k))
+
+crossing : (c : tie.After-crossing-between2 Inv-loop μ-loop) →
+    let k = c .before .before .before in
+    let s = flow (start k) in
+    let i = k .before .loop .i in
+    let r = c .crossing-between2 .result in
+    Crosses (start k .args .t) (start k .args .x) (leftSide s (i + 1)) (rightSide s (i + 1)) (r .rightward) (r .leftward) (r .momentum) (r .«lost_left») (r .«lost_right») × CrossingFits r
+crossing c =
+    let k = c .before .before .before in
+    let e = c .crossing-between2 .ensures in
+    (crosses-at (here k ∙ sym (left-side-next (flow (start k)) (k .before .loop .i))) (next (c .before) .1) (e .0), e .1)
+
+shared-slice-copy-out-cell-of : tie.Need-shared-slice-copy-out-cell-of Inv-loop μ-loop
+shared-slice-copy-out-cell-of c = omega arith
+
+shared-slice-read-cell-of : tie.Need-shared-slice-read-cell-of Inv-loop μ-loop
+shared-slice-read-cell-of c = omega arith
+
+shared-slice-copy-out-cell-of-2 : tie.Need-shared-slice-copy-out-cell-of-2 Inv-loop μ-loop
+shared-slice-copy-out-cell-of-2 c = omega arith
+
+cell-of-requires : tie.Need-cell-of-requires Inv-loop μ-loop
+cell-of-requires c κs =
+    let p = c .before .before .before .before .before .pre .0 .1 in
+    rw (toZ-ofZ (sfits-of (c .before .before .cell-of-arg .given)), toZ-ofZ (sfits-of (c .cell-of-arg2 .given))) (p .cell 0 (p .some))
+
+array-copy-out-boundary-cell : tie.Need-array-copy-out-boundary-cell Inv-loop μ-loop
+array-copy-out-boundary-cell c = omega arith
+
+boundary-cell-requires : tie.Need-boundary-cell-requires Inv-loop μ-loop
+boundary-cell-requires c κs = (first (c .before) .0, c .before .before .before .before .before .before .before .pre .0 .1 .left)
+
+still-meets-requires : tie.Need-still-meets-requires Inv-loop μ-loop
+still-meets-requires c κs = (c .before .before .before .before .before .before .before .before .pre .0 .0, beyond c .0)
+
+still-meets-requires-2 : tie.Need-still-meets-requires-2 Inv-loop μ-loop
+still-meets-requires-2 c κs = (c .before .before .before .before .before .before .before .before .before .pre .0 .0, first (c .before .before .before) .0)
+
+crossing-between-requires : tie.Need-crossing-between-requires Inv-loop μ-loop
+crossing-between-requires c κs = (c .before .before .before .before .before .before .before .before .before .before .pre .0 .0, (beyond (c .before .before) .0, first (c .before .before .before .before) .0))
+
+net-of-requires : tie.Need-net-of-requires Inv-loop μ-loop
+net-of-requires c κs = c .crossing-between .ensures .1
+
+slice-set-from-net : tie.Need-slice-set-from-net Inv-loop μ-loop
+slice-set-from-net c = let p = entry c .pre .1 .0 in omega (arith, p)
+
+loop-holds : tie.Need-loop-holds Inv-loop μ-loop
+unfolding allBelow
+loop-holds c =
+    let s = entry c in
+    let p = s .pre .0 .1 in
+    let a = first (c .before .before .before .before .before .before) in
+    let b = beyond (c .before .before .before .before) in
+    let r = a .1 ∙ sym (right-side-cell (flow s) 0 (p .some)) in
+    let e = c .before .crossing-between .ensures in
+    let k = crosses-at (b .1) r (e .0) in
+    let meets = sideMeets (s .args .t) (s .args .x) in (
+      omega arith,
+      written-first (pos 0) (netAt (flow s) (s .args .t)) (now (s .args .net)) (stored c) (omega (arith, s .pre .1 .0)) (toZ-ofZ (sfits-of (c .net-of .ok)) ∙ c .net-of .ensures ∙ sym (net-by-crossing (flow s) (s .args .t) 0 k)),
+      written-none _ _ _,
+      written-none _ _ _,
+      a .0,
+      r,
+      k,
+      e .1,
+      c .before .before .still-meets2 .ensures ∙ ap₂ _&&_ (c .before .before .before .still-meets .ensures ∙ ap meets (b .1)) (ap meets r),
+    )
+
+array-copy-out-right-side : tie.Need-array-copy-out-right-side Inv-loop μ-loop
+array-copy-out-right-side c = omega arith
+
+add-right-side : tie.Need-add-right-side Inv-loop μ-loop
+add-right-side c = let l = index (c .before) in omega (arith, l .1)
+
+right-side-requires : tie.Need-right-side-requires Inv-loop μ-loop
+right-side-requires c κs =
+    let p = start (c .before) .pre .0 .1 in
+    ((p .depths, p .discharges), ((λ l. p .cell _ l), (c .before .before .loop .inv .4, p .right)))
+
+crossing-between-requires-2 : tie.Need-crossing-between-requires-2 Inv-loop μ-loop
+crossing-between-requires-2 c κs = (start (c .before .before) .pre .0 .0, (c .before .before .before .loop .inv .4, next c .0))
+
+mul-depth-after : tie.Need-mul-depth-after Inv-loop μ-loop
+mul-depth-after c = let l = index (c .before .before .before) in omega (arith, l .1)
+
+shared-slice-read-depth-after : tie.Need-shared-slice-read-depth-after Inv-loop μ-loop
+shared-slice-read-depth-after c =
+    let k = c .before .before .before .before in
+    let l = index k in
+    omega (arith, l .0, start k .pre .0 .1 .depths)
+
+depth-after-requires : tie.Need-depth-after-requires Inv-loop μ-loop
+depth-after-requires c κs =
+    let k = c .before .before .before .before in
+    (start k .pre .0 .1 .cell (k .before .loop .i) (index k .0) .1 .0, (k .before .loop .inv .7, crossing (c .before) .1))
+
+still-meets-requires-3 : tie.Need-still-meets-requires-3 Inv-loop μ-loop
+still-meets-requires-3 c κs = (start (c .before .before .before .before .before) .pre .0 .0, next (c .before .before .before) .0)
+
+net-of-requires-2 : tie.Need-net-of-requires-2 Inv-loop μ-loop
+net-of-requires-2 c κs = crossing (c .before .before .before) .1
+
+add-discharge : tie.Need-add-discharge Inv-loop μ-loop
+add-discharge c = let l = index (c .before .before .before .before .before .before .before) in omega (arith, l .1)
+
+mul-discharge : tie.Need-mul-discharge Inv-loop μ-loop
+mul-discharge c = let l = index (c .before .before .before .before .before .before .before) in omega (arith, l .1)
+
+slice-set-from-discharge : tie.Need-slice-set-from-discharge Inv-loop μ-loop
+slice-set-from-discharge c =
+    let k = c .before .before .before .before .before .before .before in
+    let l = index k in
+    omega (arith, l .0, start k .pre .1 .0, net-length k)
+
+mul-depth : tie.Need-mul-depth Inv-loop μ-loop
+mul-depth c = let l = index (c .before .before .before .before .before .before .before) in omega (arith, l .1)
+
+slice-write-depth : tie.Need-slice-write-depth Inv-loop μ-loop
+slice-write-depth c =
+    let k = c .before .before .before .before .before .before .before in
+    let l = index k in
+    omega (arith, l .0, start k .pre .1 .1 .0, k .before .loop .inv .2 .long)
+
+mul-momentum-after : tie.Need-mul-momentum-after Inv-loop μ-loop
+mul-momentum-after c = let l = index (c .before .before .before .before .before .before .before) in omega (arith, l .1)
+
+shared-slice-copy-out-momentum-after :
+    tie.Need-shared-slice-copy-out-momentum-after Inv-loop μ-loop
+shared-slice-copy-out-momentum-after c =
+    let k = c .before .before .before .before .before .before .before in
+    let l = index k in
+    omega (arith, l .0, start k .pre .0 .1 .discharges)
+
+momentum-after-requires : tie.Need-momentum-after-requires Inv-loop μ-loop
+momentum-after-requires c κs =
+    let k = c .before .before .before .before .before .before .before .before in
+    let i = k .before .loop .i in
+    let f = start k .pre .0 .1 .cell i (index k .0) .1 in
+    let l = k .before .loop .inv .7 in
+    let r = crossing (c .before .before .before .before .before) .1 in
+    rw (toZ-ofZ (sfits-of (c .momentum-after-arg .given))) (
+      omega (arith, f .0, f .1),
+      (omega (arith, f .0, l .rightward-most, r .leftward-most, c .before .before .before .depth-after .ensures), (l, r)),
+    )
+
+mul-t39 : tie.Need-mul-t39 Inv-loop μ-loop
+mul-t39 c = let l = index (c .before .before .before .before .before .before .before .before .before) in omega (arith, l .1)
+
+slice-set-from-discharge-2 : tie.Need-slice-set-from-discharge-2 Inv-loop μ-loop
+slice-set-from-discharge-2 c =
+    let k = c .before .before .before .before .before .before .before .before .before in
+    let l = index k in
+    omega (arith, l .0, start k .pre .1 .1 .1, k .before .loop .inv .3 .long)
+
+add-i : tie.Need-add-i Inv-loop μ-loop
+add-i c = let l = index (c .before .before .before .before .before .before .before .before .before) in omega (arith, l .1)
+
+loop-less : tie.Need-loop-less Inv-loop μ-loop
+loop-less c = let l = index (c .before .before .before .before .before .before .before .before .before) in omega (arith, l .0)
+
+loop-again : tie.Need-loop-again Inv-loop μ-loop
+loop-again c =
+    let k = c .before .before .before .before .before .before .before .before .before in
+    let i = k .before .loop .i in
+    let w = k .before .loop .inv in
+    let s = flow (start k) in
+    let a = start k .args in
+    let l = index k .0 in
+    let n = next (c .before .before .before .before .before .before .before) in
+    let r = crossing (c .before .before .before .before .before .before) in
+    let depth = c .before .before .before .before .depth-after .ensures in (
+      omega (arith, l),
+      written-more (pos 0) (netAt s (a .t)) _ (i + 1) _ _ (w .1) (omega (arith, l, start k .pre .1 .0, net-length k, w .1 .long))
+          (toZ-ofZ (sfits-of (c .before .before .net-of2 .ok)) ∙ c .before .before .net-of2 .ensures ∙ sym (net-by-crossing s (a .t) (i + 1) (r .0))),
+      written-more 0 (λ j. positive (newDepth s (a .t) j)) _ i _ _ (w .2) (omega (arith, l, start k .pre .1 .1 .0))
+          (depth ∙ sym (depth-by-crossings s (a .t) i l (w .6) (r .0))),
+      written-more (pos 0) (newDischarge s (a .t)) _ i _ _ (w .3) (omega (arith, l, start k .pre .1 .1 .1))
+          (toZ-ofZ (sfits-of (c .momentum-after .ok)) ∙ rw (toZ-ofZ (sfits-of (c .before .momentum-after-arg .given)), depth) at (c .momentum-after .ensures) ∙ sym (discharge-by-crossings s (a .t) i l (w .6) (r .0))),
+      n .0,
+      n .1,
+      r .0,
+      r .1,
+      c .before .before .before .still-meets3 .ensures ∙ ap₂ _&&_ (w .8) (ap (sideMeets (a .t) (a .x)) (n .1)) ∙ meets-more (sideMeets (a .t) (a .x) (leftSide s 0)) (λ j. sideMeets (a .t) (a .x) (rightSide s j)) i,
+    )
+
+same-length : tie.Need-same-length Inv-loop μ-loop
+same-length c = c .before .loop .inv .1 .long ∙ length-set (now (entry (c .before .before) .args .net)) 0 (stored (c .before .before))
+
+same-length-2 : tie.Need-same-length-2 Inv-loop μ-loop
+same-length-2 c = c .before .loop .inv .2 .long
+
+same-length-3 : tie.Need-same-length-3 Inv-loop μ-loop
+same-length-3 c = c .before .loop .inv .3 .long
+
+returns : tie.Need-returns Inv-loop μ-loop
+unfolding sidesMeet
+returns c =
+    let w = c .before .loop .inv in
+    let s = flow (entry (c .before .before)) in
+    let a = entry (c .before .before) .args in
+    let e : c .before .loop .i ≡ cells s = omega (arith, c .loop-test .left, w .0) in (
+      rw (e, add-one (cells s)) at (w .8),
+      record {
+        nets = λ i l. w .1 .done i (omega arith);
+        depths = λ i l. w .2 .done i (omega arith);
+        discharges = λ i l. w .3 .done i (omega arith);
+      },
+    )
+
+pub sweep-spec : {M : Type 1} → statement M
+sweep-spec =
+    tie.close
+    (tie.spec
+    Inv-loop
+    μ-loop
+    shared-slice-copy-out-cell-of
+    shared-slice-read-cell-of
+    shared-slice-copy-out-cell-of-2
+    cell-of-requires
+    array-copy-out-boundary-cell
+    boundary-cell-requires
+    still-meets-requires
+    still-meets-requires-2
+    crossing-between-requires
+    net-of-requires
+    slice-set-from-net
+    loop-holds
+    array-copy-out-right-side
+    add-right-side
+    right-side-requires
+    crossing-between-requires-2
+    mul-depth-after
+    shared-slice-read-depth-after
+    depth-after-requires
+    still-meets-requires-3
+    net-of-requires-2
+    add-discharge
+    mul-discharge
+    slice-set-from-discharge
+    mul-depth
+    slice-write-depth
+    mul-momentum-after
+    shared-slice-copy-out-momentum-after
+    momentum-after-requires
+    mul-t39
+    slice-set-from-discharge-2
+    add-i
+    loop-less
+    loop-again
+    same-length
+    same-length-2
+    same-length-3
+    returns)
