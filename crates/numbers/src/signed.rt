@@ -1,7 +1,7 @@
 // Signed numbers and their two parts: max(z,0), 'right', and max(−z,0), 'left'.
 ghost use mathlib.Core.Path.{_≡_};
-ghost use Prim.Native.Nat.{_-_, _<_};
-ghost use lib.IntN.{natAbs, negℤ, subℕ};
+ghost use Prim.Native.Nat.{_-_, _≤_, _<_};
+ghost use lib.IntN.{natAbs, _+ℤ_, negℤ, subℕ};
 ghost use Rattle.numbers.specs.Signed.{positive};
 
 // A signed number right − left. Where each part is what its name says of a number, one of the two is 0.
@@ -44,4 +44,12 @@ pub fn excess(x: u64, n: u64) -> u64
     ensures { λ r. ⌜ r ≡ x - n ⌝ }
 {
     if n < x { x - n } else { 0 }
+}
+
+// y + z of numbers far from the ends of their type
+pub fn sum_of(y: i64, z: i64) -> i64
+    requires { ⌜ (natAbs y ≤ 1_000_000_000) × (natAbs z ≤ 1_000_000_000) ⌝ }
+    ensures { λ r. ⌜ r ≡ y +ℤ z ⌝ }
+{
+    y + z
 }

@@ -6,13 +6,16 @@ ghost use Rattle.reach.specs.Ranges.{CellLengths};
 use super::refusal::Check;
 use numbers::signed::magnitude;
 
+// The cells of a reach: work arrays of the calls are as long
+pub const CELLS_MOST: usize = 512;
+
 fn lengths_fit(z: usize, h: usize, q: usize, m: usize, b: usize, c: usize) -> bool
     ensures { λ r. ⌜ r ≡ lengthsFit z h q m b c ⌝ }
 {
     if z < 1 {
         return false;
     }
-    if 512 < z {
+    if CELLS_MOST < z {
         return false;
     }
     if h != z {

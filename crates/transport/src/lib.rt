@@ -77,7 +77,7 @@ pub fn crossed_of(m: &[u64], b: &[u64], c: &[i64], ends: [Boundary; 2]) -> Cross
     }
 }
 
-fn with_mass(t: Totals, gained: u64, lost: u64) -> Totals
+pub fn with_mass(t: Totals, gained: u64, lost: u64) -> Totals
     requires { ⌜ (t .«mass_in» ≤ totalMost) × ((t .«mass_out» ≤ totalMost) × ((gained ≤ massMost) × (lost ≤ massMost))) ⌝ }
     ensures { λ r. ⌜ r ≡ withMass t gained lost ⌝ }
 {

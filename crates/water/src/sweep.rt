@@ -8,6 +8,7 @@ ghost use lib.IntN.{pos, _+ℤ_, _-ℤ_, natAbs, subℕ};
 ghost use lib.ListN.{length, getD};
 ghost use Rattle.flux.specs.Limits.{depthMost, velocityMost};
 ghost use Rattle.flux.specs.Ranges.{Mesh};
+ghost use Rattle.reach.specs.Grounds.{passOr};
 ghost use Rattle.water.specs.Ranges.{sideOf, CellFits, CrossingFits, flowOf, InRange, FlowFits, sideMeets, sidesMeet, Swept};
 ghost use Rattle.flux.specs.Velocity.{velocity};
 ghost use Rattle.water.specs.Sides.{boundarySide};
@@ -21,6 +22,7 @@ use super::discharge_after;
 use numbers::signed::excess;
 use numbers::signed::joined;
 use reach::boundary::Boundary;
+use reach::refusal::Check;
 
 // Whether CFL, kept so far, is kept at the side c too
 fn still_meets(met: bool, t: u64, x: u64, c: Cell) -> bool
@@ -75,7 +77,17 @@ fn momentum_after(q: i64, l: Crossing, r: Crossing, depth: u64) -> i64
     )
 }
 
-// Whether CFL is met at every side; N of each interface, and depth and discharge of each cell after the step
+// Ground 11
+fn check_cfl(met: bool) -> Check
+    ensures { λ r. ⌜ r ≡ passOr 11 met ⌝ }
+{
+    if !met {
+        return Check::Refused(11);
+    }
+    Check::Pass
+}
+
+// Ground 11, CFL at every side; N of each interface, and depth and discharge of each cell after the step
 pub fn sweep(
     t: u64,
     x: u64,
@@ -86,10 +98,10 @@ pub fn sweep(
     net: &mut [i64],
     depth: &mut [u64],
     discharge: &mut [i64],
-) -> bool
+) -> Check
     requires { ⌜ Mesh t x × FlowFits (flowOf (now z) (now h) (now q) x ends) ⌝ }
     requires { ⌜ (length (now z) < length (now net)) × ((length (now z) ≤ length (now depth)) × (length (now z) ≤ length (now discharge))) ⌝ }
-    ensures { λ r. ⌜ r ≡ sidesMeet (flowOf (now (z .entry)) (now (h .entry)) (now (q .entry)) x ends) t ⌝ }
+    ensures { λ r. ⌜ r ≡ passOr 11 (sidesMeet (flowOf (now (z .entry)) (now (h .entry)) (now (q .entry)) x ends) t) ⌝ }
     ensures { λ _. ⌜ Swept (flowOf (now (z .entry)) (now (h .entry)) (now (q .entry)) x ends) t (now (net .exit)) (now (depth .exit)) (now (discharge .exit)) ⌝ }
 {
     let n = z.len();
@@ -111,5 +123,5 @@ pub fn sweep(
         left = right;
         i += 1;
     }
-    met
+    check_cfl(met)
 }

@@ -15,7 +15,8 @@ use borrow.Author.Needs.{needs, sfits-of}
 use Rattle.numbers.specs.Index.{allBelow}
 use Rattle.numbers.specs.Signed.{positive}
 use Rattle.numbers.proofs.IndexLaws.{Written, written-none, written-first, written-more}
-use Rattle.reach.specs.Reach.{Reach, cells, rightEnd}
+use Rattle.reach.specs.Reach.{Reach, cells}
+use Rattle.reach.specs.Grounds.{passOr}
 use Rattle.water.specs.Sides.{cellSide, boundarySide, leftSide, rightSide}
 use Rattle.water.specs.Water.{netAt, newDepth, newDischarge}
 use Rattle.water.specs.Ranges.{sideOf, CellFits, Crosses, CrossingFits, flowOf, sideMeets, sidesMeet}
@@ -266,23 +267,28 @@ loop-again c =
       c .before .before .before .still-meets3 .ensures ∙ ap₂ _&&_ (w .8) (ap (sideMeets (a .t) (a .x)) (n .1)) ∙ meets-more (sideMeets (a .t) (a .x) (leftSide s 0)) (λ j. sideMeets (a .t) (a .x) (rightSide s j)) i,
     )
 
+check-cfl-requires : tie.Need-check-cfl-requires Inv-loop μ-loop
+check-cfl-requires c κs = search needs
+
 same-length : tie.Need-same-length Inv-loop μ-loop
-same-length c = c .before .loop .inv .1 .long ∙ length-set (now (entry (c .before .before) .args .net)) 0 (stored (c .before .before))
+same-length c =
+    let k = c .before .before in
+    k .loop .inv .1 .long ∙ length-set (now (entry (k .before) .args .net)) 0 (stored (k .before))
 
 same-length-2 : tie.Need-same-length-2 Inv-loop μ-loop
-same-length-2 c = c .before .loop .inv .2 .long
+same-length-2 c = c .before .before .loop .inv .2 .long
 
 same-length-3 : tie.Need-same-length-3 Inv-loop μ-loop
-same-length-3 c = c .before .loop .inv .3 .long
+same-length-3 c = c .before .before .loop .inv .3 .long
 
 returns : tie.Need-returns Inv-loop μ-loop
 unfolding sidesMeet
 returns c =
-    let w = c .before .loop .inv in
-    let s = flow (entry (c .before .before)) in
-    let a = entry (c .before .before) .args in
-    let e : c .before .loop .i ≡ cells s = omega (arith, c .loop-test .left, w .0) in (
-      rw (e, add-one (cells s)) at (w .8),
+    let k = c .before .before in
+    let w = k .loop .inv in
+    let s = flow (entry (k .before)) in
+    let e : k .loop .i ≡ cells s = omega (arith, c .before .loop-test .left, w .0) in (
+      c .check-cfl .ensures ∙ ap (passOr 11) (rw (e, add-one (cells s)) at (w .8)),
       record {
         nets = λ i l. w .1 .done i (omega arith);
         depths = λ i l. w .2 .done i (omega arith);
@@ -330,6 +336,7 @@ sweep-spec =
     add-i
     loop-less
     loop-again
+    check-cfl-requires
     same-length
     same-length-2
     same-length-3
