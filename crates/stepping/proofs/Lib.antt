@@ -1,2 +1,3 @@
 pub mod GreatestLaws
 pub mod StepLaws
+pub mod StepCallLaws

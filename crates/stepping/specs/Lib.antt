@@ -1,2 +1,3 @@
 pub mod GreatestStep
 pub mod Step
+pub mod Ranges

@@ -1,4 +1,5 @@
 -- Document 01, 'A water step': the settling test, the ledger's end water, grounds 10 to 13, and the record after the step.
+use mathlib.Core.Path.{_≡_}
 use mathlib.Core.Bool.{Bool, true, false, not, cond, _&&_}
 use mathlib.Core.List.{List, [], _∷_, _++_}
 use Prim.Native.Nat.{ℕ, suc, _+_}
@@ -12,11 +13,13 @@ use Rattle.cfl.specs.Cfl.{meetsCfl}
 use Rattle.reach.specs.Reach.{Reach, cells, baseAt, carriedAt}
 use Rattle.reach.specs.Grounds.{Ground, ground, firstRefusal, ledgerFits, recordGrounds}
 use Rattle.reach.specs.Outcome.{Outcome, outcome}
+use Rattle.reach.specs.declared.boundary.Boundary.{Boundary}
 use Rattle.reach.specs.declared.ledger.Totals.{Totals}
 use Rattle.reach.specs.declared.ledger.Ledger.{Ledger}
 use Rattle.transport.specs.Calls.{transported}
 use Rattle.water.specs.Water.{netAt, newDepth, newDischarge}
 use Rattle.stepping.specs.GreatestStep.{placeSpeed}
+use Rattle.stepping.specs.declared.step.Stepped.{Stepped}
 
 -- ---- the settling test
 
@@ -90,3 +93,19 @@ step s t = outcome (firstRefusal (stepGrounds s t)) s (stepped s t)
 -- whether an accepted step settled
 unfoldable pub settles : Reach → (t : ℕ) → Bool
 settles s t = eqb (step s t .refusal) 0 && not (keepsSums s t)
+
+-- a refusal: its number, the boundaries and the ledger as they came, no settling
+abbrev pub stoppedBy : ℕ → List Boundary → Ledger → Stepped
+stoppedBy n es k = record { refusal = n; ends = es; ledger = k; settled = false }
+
+-- a step of t came out as `step` says: every field of its answer, and every column that it may write
+pub record StepCameTo (s : Reach) (t : ℕ) (r : Stepped) (depth : List ℕ) (discharge : List ℤ) (mass base : List ℕ) (carried : List ℤ) : Type 0 where
+  pub refusal-is : r .refusal ≡ step s t .refusal
+  pub ends-are : r .ends ≡ step s t .reach .ends
+  pub ledger-is : r .ledger ≡ step s t .reach .ledger
+  pub settled-is : r .settled ≡ settles s t
+  pub depth-is : depth ≡ step s t .reach .depth
+  pub discharge-is : discharge ≡ step s t .reach .discharge
+  pub mass-is : mass ≡ step s t .reach .mass
+  pub base-is : base ≡ step s t .reach .base
+  pub carried-is : carried ≡ step s t .reach .carried

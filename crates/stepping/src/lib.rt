@@ -1,4 +1,8 @@
-// The greatest time step that a record allows (document 01, 'The greatest step').
+// The calls of a water step: the step itself in `step`, and the greatest time step that a record allows (document 01, 'The greatest step').
+pub mod ledger;
+pub mod settling;
+pub mod step;
+
 ghost use mathlib.Core.Path.{_≡_};
 ghost use Rattle.cfl.specs.Ranges.{Flowing};
 ghost use Rattle.reach.specs.Reach.{reachOf};

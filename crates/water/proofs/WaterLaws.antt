@@ -1,12 +1,13 @@
 -- Laws of the water of a step: no depth goes below zero, and a wall passes nothing. Assumes nothing.
 use mathlib.Core.Path.{_≡_, refl, sym, ap, ap₂, _∙_}
 use mathlib.Core.Bool.{Bool, true, false, cond, _&&_}
+use mathlib.Core.List.{List}
 use mathlib.Core.Logic.{⊎-elim}
 use Prim.Native.Nat.{ℕ, zero, suc, _+_, _-_, _*_, _≤_, _<_}
 use native.Mathlib.Omega.{arith}
 use native.Mathlib.Nat.{le-trans}
 use native.Mathlib.Numerals.{add-one}
-use lib.Dec.{ltb}
+use lib.Dec.{eqb, ltb}
 use borrow.Author.Tests.{lt-ltb, le-ltb, eq-eqb, ne-eqb}
 use lib.IntN.{ℤ, pos, _+ℤ_, _-ℤ_, negℤ, subℕ, natAbs}
 use lib.Signed.{leZ, leZ-yes}
@@ -21,13 +22,14 @@ use Rattle.flux.specs.Interface.{Side, reducedDepth, leftDepth, rightDepth, net
 use Rattle.flux.specs.Limits.{depthMost, velocityMost}
 use Rattle.flux.specs.Ranges.{Mesh}
 use Rattle.flux.proofs.CrossingLaws.{still-thrust-mono, still-thrust-most, water-flux-most, momentum-flux-most}
+use Rattle.flux.proofs.VelocityLaws.{velocity-most}
 use Rattle.flux.proofs.InterfaceLaws.{reduced-depth-le, net-water-is, wall-passes-nothing, cell-outflow-le-depth}
 use Rattle.reach.specs.Limits.{wall, openEnd}
 use Rattle.reach.specs.declared.boundary.Boundary.{Boundary}
 use Rattle.reach.specs.Reach.{Reach, cells, bedAt, depthAt, dischargeAt, leftEnd, rightEnd}
 use Rattle.water.specs.Sides.{cellSide, boundarySide, leftSide, rightSide}
 use Rattle.water.specs.Water.{netAt, momentumAt, ownLeft, ownRight, newDepth, pushed, nearest, newDischarge}
-use Rattle.water.specs.Ranges.{sideOf, CellFits, Crosses, CrossingFits}
+use Rattle.water.specs.Ranges.{sideOf, CellFits, Crosses, CrossingFits, fluxMost, flowOf, FlowFits, sidesMeet, Swept}
 use Rattle.water.specs.declared.Cell.{Cell}
 use Rattle.water.specs.declared.Crossing.{Crossing}
 
@@ -310,3 +312,98 @@ pub meets-more : (first : Bool) (f : ℕ → Bool) (i : ℕ) → ((first && allB
 unfolding allBelow
 meets-more true f i = rw (add-one (i + 1)) refl
 meets-more false f i = refl
+
+pub right-side-end : (s : Reach) → rightSide s (cells s) ≡ boundarySide (rightEnd (s .ends)) (cellSide s (cells s - 1))
+unfolding rightSide
+right-side-end s = rw (le-ltb (cells s) (cells s) (omega arith)) refl
+
+-- ---- N is small
+
+-- a side in range
+pub record SideFits (s : Side) : Type 0 where
+  pub depth : s .depth ≤ depthMost
+  pub velocity : natAbs (s .velocity) ≤ velocityMost
+
+boundary-side-fits : (e : Boundary) (c : Side) → (e .depth ≤ depthMost) × (natAbs (e .discharge) ≤ velocityMost * e .depth) → SideFits c → SideFits (boundarySide e c)
+unfolding boundarySide mirrored
+boundary-side-fits e c r f = go (eqb (e .kind) wall) (eqb (e .kind) openEnd)
+  where
+    go : (w o : Bool) → SideFits (cond w (mirrored c) (cond o c (record { bed = c .bed; depth = e .depth; velocity = velocity (e .depth) (e .discharge) })))
+    go true o = record { depth = f .depth; velocity = omega (arith, abs-neg (c .velocity), f .velocity) }
+    go false true = f
+    go false false = record { depth = r .0; velocity = velocity-most velocityMost (e .depth) (e .discharge) (r .1) }
+
+module _ (s : Reach) (f : FlowFits s) where
+  cell-side-fits : (i : ℕ) → i < cells s → SideFits (cellSide s i)
+  unfolding cellSide
+  cell-side-fits i l = let r = f .cell i l in record { depth = r .1 .0; velocity = velocity-most velocityMost (depthAt s i) (dischargeAt s i) (r .1 .1) }
+
+  left-side-fits : (i : ℕ) → i ≤ cells s → SideFits (leftSide s i)
+  unfolding leftSide
+  left-side-fits zero l = boundary-side-fits (leftEnd (s .ends)) (cellSide s 0) (f .left) (cell-side-fits 0 (f .some))
+  left-side-fits (suc i) l = cell-side-fits i l
+
+  right-side-fits : (i : ℕ) → i ≤ cells s → SideFits (rightSide s i)
+  unfolding rightSide
+  right-side-fits i l =
+      by-less i (cells s) (λ b. SideFits (cond b (cellSide s i) (boundarySide (rightEnd (s .ends)) (cellSide s (cells s - 1)))))
+      (λ k. cell-side-fits i k)
+      (λ k. boundary-side-fits (rightEnd (s .ends)) (cellSide s (cells s - 1)) (f .right) (cell-side-fits (cells s - 1) (let n = f .some in omega arith)))
+
+  pub net-small : (t i : ℕ) → Mesh t (s .cellLength) → i ≤ cells s → natAbs (netAt s t i) ≤ fluxMost
+  unfolding rightward leftward leftDepth rightDepth
+  net-small t i g l =
+      let a = left-side-fits i l in
+      let b = right-side-fits i l in
+      let u = leftSide s i .velocity in
+      let v = rightSide s i .velocity in
+      let hl = leftDepth (leftSide s i) (rightSide s i) in
+      let hr = rightDepth (leftSide s i) (rightSide s i) in
+      let dl : hl ≤ depthMost = le-trans (reduced-depth-le (leftSide s i .depth) (leftSide s i .bed) (rightSide s i .bed)) (a .depth) in
+      let dr : hr ≤ depthMost = le-trans (reduced-depth-le (rightSide s i .depth) (rightSide s i .bed) (leftSide s i .bed)) (b .depth) in
+      let vr : natAbs (negℤ v) ≤ velocityMost = omega (arith, abs-neg v, b .velocity) in
+      let r = water-flux-most t (s .cellLength) hl u g dl (a .velocity) in
+      let w = water-flux-most t (s .cellLength) hr (negℤ v) g dr vr in
+      rw (net-is s t i) (omega (arith, abs-sub (rightward s t i) (leftward s t i), r, w))
+
+-- ---- what a record holds besides its water does not matter
+
+module _ (s : Reach) (t : ℕ) where
+  abbrev flow : Reach
+  flow = flowOf (s .bed) (s .depth) (s .discharge) (s .cellLength) (s .ends)
+
+  pub sides-same : sidesMeet flow t ≡ sidesMeet s t
+  unfolding sidesMeet leftSide rightSide cellSide
+  sides-same = refl
+
+  left-same : (i : ℕ) → leftSide flow i ≡ leftSide s i
+  unfolding leftSide cellSide
+  left-same zero = refl
+  left-same (suc i) = refl
+
+  right-same : (i : ℕ) → rightSide flow i ≡ rightSide s i
+  unfolding rightSide cellSide
+  right-same i = refl
+
+  net-same : (i : ℕ) → netAt flow t i ≡ netAt s t i
+  unfolding netAt
+  net-same i = rw (left-same i, right-same i) refl
+
+  depth-same : (i : ℕ) → newDepth flow t i ≡ newDepth s t i
+  unfolding newDepth
+  depth-same i = rw (net-same i, net-same (suc i)) refl
+
+  pushed-same : (i : ℕ) → pushed flow t i ≡ pushed s t i
+  unfolding pushed momentumAt ownLeft ownRight
+  pushed-same i = rw (left-same i, left-same (suc i), right-same i, right-same (suc i)) refl
+
+  discharge-same : (i : ℕ) → newDischarge flow t i ≡ newDischarge s t i
+  unfolding newDischarge
+  discharge-same i = rw (depth-same i, pushed-same i) refl
+
+  pub swept-same : (net : List ℤ) (depth : List ℕ) (discharge : List ℤ) → Swept flow t net depth discharge → Swept s t net depth discharge
+  swept-same net depth discharge k = record {
+    nets = λ i l. k .nets i l ∙ net-same i;
+    depths = λ i l. k .depths i l ∙ ap positive (depth-same i);
+    discharges = λ i l. k .discharges i l ∙ discharge-same i;
+  }

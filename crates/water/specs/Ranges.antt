@@ -56,7 +56,7 @@ pub record CrossingFits (c : Crossing) : Type 0 where
 
 -- ---- a whole reach
 
--- a record of which a step reads the water alone: what it holds besides does not matter (`same-net`, `same-depth`, `same-discharge`)
+-- a record of which a step reads the water alone: what it holds besides does not matter (`swept-same`)
 abbrev pub flowOf : List ℤ → List ℕ → List ℤ → ℕ → List Boundary → Reach
 flowOf z h q X es =
     let none : Totals = record { «water_in» = 0; «water_out» = 0; «mass_in» = 0; «mass_out» = 0 } in

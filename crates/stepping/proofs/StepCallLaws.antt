@@ -1,0 +1,386 @@
+-- Laws of the step's call: what a sound record owes its functions, that what they find is what the definitions say, and what each outcome is.
+-- Assumes nothing.
+use mathlib.Core.Path.{_≡_, refl, sym, ap, ap₂, _∙_, subst}
+use mathlib.Core.Bool.{Bool, true, false, not, cond, _&&_}
+use mathlib.Core.List.{List, [], _∷_}
+use Prim.Native.Nat.{ℕ, zero, suc, _+_, _-_, _*_, _≤_, _<_}
+use native.Mathlib.Numerals.{add-one}
+use native.Mathlib.Omega.{arith}
+use borrow.Author.Tests.{leb-true, le-leb, eqb-true, le-ltb, ne-eqb}
+use lib.Dec.{leb, eqb}
+use lib.IntN.{ℤ, pos, negsuc, _+ℤ_, negℤ, natAbs}
+use lib.Signed.{leZ}
+use lib.ListN.{length, getD, replicate, length-replicate}
+use Rattle.numbers.specs.Index.{allBelow, tabulate}
+use Rattle.numbers.specs.Signed.{positive}
+use Rattle.numbers.proofs.IndexLaws.{and-both, and-left, and-right, all-of, all-at, all-below, all-same, tabulate-same}
+use Rattle.numbers.proofs.SearchLaws.{by-less}
+use Rattle.numbers.proofs.SignedLaws.{abs-neg}
+use Rattle.flux.specs.Limits.{depthMost, timeStepMost}
+use Rattle.flux.specs.Interface.{Side, mirrored}
+use Rattle.flux.specs.Ranges.{Mesh}
+use Rattle.flux.specs.Velocity.{velocity}
+use Rattle.cfl.specs.Cfl.{signalSpeed, speedAt, meetsCfl}
+use Rattle.reach.specs.Limits.{wall, openEnd, fed, carriedMost}
+use Rattle.reach.specs.Reach.{Reach, cells, depthAt, dischargeAt, baseAt, carriedAt, leftEnd, rightEnd}
+use Rattle.reach.specs.Grounds.{firstRefusal, recordGrounds, boundaryFits, boundariesFit, kindFits, ledgerFits, passOr}
+use Rattle.reach.specs.Outcome.{Outcome, outcome}
+use Rattle.reach.specs.declared.boundary.Boundary.{Boundary}
+use Rattle.reach.specs.declared.ledger.Ledger.{Ledger}
+use Rattle.reach.specs.declared.refusal.Check.{Check}
+use Rattle.reach.specs.declared.refusal.Check.the-variants.{Pass, Refused}
+use Rattle.reach.proofs.GroundsLaws.{go-on, stop-at, last-one, further, no-further, numbered, refused-number}
+use Rattle.reach.proofs.Sound.{Sound}
+use Rattle.mass.specs.Transport.{columns, movedMass}
+use Rattle.mass.specs.Ranges.{Ready}
+use Rattle.transport.specs.Calls.{columnsOf, withMass, ledgerWith, transported}
+use Rattle.transport.specs.Ranges.{Small}
+use Rattle.transport.proofs.CallsLaws.{ready, small, ledger-is, carried-zero}
+use Rattle.water.specs.Sides.{cellSide, boundarySide, leftSide, rightSide}
+use Rattle.water.specs.Water.{netAt, newDepth}
+use Rattle.water.specs.Ranges.{fluxMost, flowOf, FlowFits, sideMeets, sidesMeet, Swept}
+use Rattle.water.proofs.WaterLaws.{right-side-cell, right-side-end, boundary-fed, net-small}
+use Rattle.stepping.specs.GreatestStep.{boundarySpeed, placeSpeed}
+use Rattle.stepping.specs.Step.{summed, keepsSums, settledFirst, withEndWater, stepLedger, stepped, timeFits, depthsFit, stepGrounds, step, settles, stoppedBy, StepCameTo}
+use Rattle.stepping.specs.Ranges.{Summable, sumsKept, CrossedWhen}
+
+-- ---- what a sound record owes the sweep
+
+pub mesh : (s : Reach) → Sound s → (t : ℕ) → timeFits t ≡ true → Mesh t (s .cellLength)
+unfolding timeFits
+mesh s k t e = record { time = leb-true _ _ (all-of _ e 1); least = k .lengthLeast; most = k .lengthMost }
+
+pub flow-fits : (s : Reach) → Sound s → FlowFits s
+flow-fits s k = record {
+  some = k .some;
+  few = omega (arith, k .few);
+  depths = k .depths;
+  discharges = k .discharges;
+  cell = λ i l. let c = k .cell i l in (c .bed, (c .depth, c .discharge));
+  left = (k .left .depth, k .left .discharge);
+  right = (k .right .depth, k .right .discharge);
+}
+
+-- and so has its water alone
+pub water-fits : (s : Reach) → Sound s → FlowFits (flowOf (s .bed) (s .depth) (s .discharge) (s .cellLength) (s .ends))
+water-fits s k = let f = flow-fits s k in
+    record { some = f .some; few = f .few; depths = f .depths; discharges = f .discharges; cell = f .cell; left = f .left; right = f .right }
+
+pub carried-small : (s : Reach) → Sound s → (i : ℕ) → i ≤ cells s → natAbs (carriedAt s i) ≤ carriedMost
+carried-small s k i l =
+    by-less i (cells s) (λ b. natAbs (carriedAt s i) ≤ carriedMost)
+    (λ j. k .water i j .left)
+    (λ j.
+    let n = k .some in
+    let p : cells s - 1 + 1 ≡ i = omega arith in
+    subst (λ (n : ℕ). natAbs (carriedAt s n) ≤ carriedMost) p (k .water (cells s - 1) (omega arith) .right))
+
+-- ---- ground 11: CFL at every side is CFL at every place
+
+same-truth : (a b : Bool) → (a ≡ true → b ≡ true) → (b ≡ true → a ≡ true) → a ≡ b
+same-truth true b f g = sym (f refl)
+same-truth false true f g = g refl
+same-truth false false f g = refl
+
+module _ (t X : ℕ) (e : Boundary) (c : Side) where
+  -- an end that meets CFL as a side meets it as a place
+  end-counts : sideMeets t X (boundarySide e c) ≡ true → leb (t * boundarySpeed e) (1_000 * X) ≡ true
+  unfolding boundarySpeed sideMeets signalSpeed
+  end-counts m = go (eqb (e .kind) fed) refl
+    where
+      go : (f : Bool) → eqb (e .kind) fed ≡ f → leb (t * cond f (signalSpeed (e .depth) (e .discharge)) 0) (1_000 * X) ≡ true
+      go true p =
+          let k = eqb-true (e .kind) fed p in
+          rw (boundary-fed e c (λ w. absurd (omega (arith, k, w))) (λ o. absurd (omega (arith, k, o)))) at m
+      go false p = le-leb (t * 0) (1_000 * X) (omega arith)
+
+  -- and the other way round, beside a cell that meets it
+  end-meets : boundaryFits e ≡ true → sideMeets t X c ≡ true → leb (t * boundarySpeed e) (1_000 * X) ≡ true → sideMeets t X (boundarySide e c) ≡ true
+  unfolding boundaryFits kindFits boundarySpeed boundarySide mirrored sideMeets signalSpeed
+  end-meets b m p = go (eqb (e .kind) wall) (eqb (e .kind) openEnd) (eqb (e .kind) fed) _ _ _ (all-of _ b 1) p
+    where
+      go : (w o f x y z : Bool) → cond w x (cond o y (cond f z false)) ≡ true → leb (t * cond f (signalSpeed (e .depth) (e .discharge)) 0) (1_000 * X) ≡ true
+          → sideMeets t X (cond w (mirrored c) (cond o c (record { bed = c .bed; depth = e .depth; velocity = velocity (e .depth) (e .discharge) }))) ≡ true
+      go true o f x y z k q = rw (abs-neg (c .velocity)) m
+      go false true f x y z k q = m
+      go false false true x y z k q = q
+      go false false false x y z k q = cc
+
+module _ (s : Reach) (k : Sound s) (t : ℕ) where
+  -- CFL at place p
+  abbrev place : ℕ → Bool
+  place p = leb (t * placeSpeed s p) (1_000 * s .cellLength)
+
+  abbrev side : ℕ → Bool
+  side i = sideMeets t (s .cellLength) (rightSide s i)
+
+  left-fits : boundaryFits (leftEnd (s .ends)) ≡ true
+  unfolding boundariesFit
+  left-fits = all-of _ (k .boundaries) 0
+
+  right-fits : boundaryFits (rightEnd (s .ends)) ≡ true
+  unfolding boundariesFit
+  right-fits = all-of _ (k .boundaries) 1
+
+  -- a place past the left boundary, by whether it is a cell
+  place-of : (i : ℕ) (P : Bool → Type 0) → (i < cells s → P (sideMeets t (s .cellLength) (cellSide s i)))
+      → (cells s ≤ i → P (leb (t * boundarySpeed (rightEnd (s .ends))) (1_000 * s .cellLength))) → P (place (suc i))
+  unfolding placeSpeed speedAt signalSpeed sideMeets cellSide
+  place-of i P f g =
+      by-less i (length (s .depth)) (λ b. P (leb (t * cond b (signalSpeed (depthAt s i) (dischargeAt s i)) (boundarySpeed (rightEnd (s .ends)))) (1_000 * s .cellLength)))
+      (λ l. f (omega (arith, k .depths)))
+      (λ l. g (omega (arith, k .depths)))
+
+  place-first : place 0 ≡ leb (t * boundarySpeed (leftEnd (s .ends))) (1_000 * s .cellLength)
+  unfolding placeSpeed speedAt
+  place-first = refl
+
+  to-places : sidesMeet s t ≡ true → meetsCfl (placeSpeed s) (cells s + 1) (s .cellLength) t ≡ true
+  unfolding sidesMeet meetsCfl leftSide
+  to-places m = all-below place (suc (cells s + 1)) go
+    where
+      first : sideMeets t (s .cellLength) (leftSide s 0) ≡ true
+      first = and-left _ _ m
+
+      all : allBelow (suc (cells s)) side ≡ true
+      all = and-right (sideMeets t (s .cellLength) (leftSide s 0)) _ m
+
+      go : (p : ℕ) → p < suc (cells s + 1) → place p ≡ true
+      go zero l = place-first ∙ end-counts t (s .cellLength) (leftEnd (s .ends)) (cellSide s 0) first
+      go (suc i) l =
+          place-of i (λ b. b ≡ true)
+          (λ j. rw (right-side-cell s i j) at (all-at side (suc (cells s)) i all (omega arith)))
+          (λ j. end-counts t (s .cellLength) (rightEnd (s .ends)) (cellSide s (cells s - 1))
+          (rw (right-side-end s) at (all-at side (suc (cells s)) (cells s) all (omega arith))))
+
+  to-sides : meetsCfl (placeSpeed s) (cells s + 1) (s .cellLength) t ≡ true → sidesMeet s t ≡ true
+  unfolding sidesMeet meetsCfl leftSide
+  to-sides m = and-both _ _ (end-meets t (s .cellLength) (leftEnd (s .ends)) (cellSide s 0) left-fits (cell 0 (k .some)) (sym place-first ∙ at 0 (omega arith))) (all-below side (suc (cells s)) go)
+    where
+      at : (p : ℕ) → p < suc (cells s + 1) → place p ≡ true
+      at p l = all-at place (suc (cells s + 1)) p m l
+
+      cell : (i : ℕ) → i < cells s → sideMeets t (s .cellLength) (cellSide s i) ≡ true
+      cell i l = place-of i (λ b. b ≡ true → sideMeets t (s .cellLength) (cellSide s i) ≡ true) (λ j q. q) (λ j q. absurd (omega arith)) (at (suc i) (omega arith))
+
+      last : leb (t * boundarySpeed (rightEnd (s .ends))) (1_000 * s .cellLength) ≡ true
+      last = place-of (cells s) (λ b. b ≡ true → leb (t * boundarySpeed (rightEnd (s .ends))) (1_000 * s .cellLength) ≡ true) (λ j q. absurd (omega arith)) (λ j q. q) (at (suc (cells s)) (omega arith))
+
+      go : (i : ℕ) → i < suc (cells s) → side i ≡ true
+      go i l =
+          by-less i (cells s) (λ b. side i ≡ true)
+          (λ j. rw (right-side-cell s i j) (cell i j))
+          (λ j.
+          let n : i ≡ cells s = omega arith in
+          rw (n, right-side-end s)
+          (end-meets t (s .cellLength) (rightEnd (s .ends)) (cellSide s (cells s - 1)) right-fits (cell (cells s - 1) (let o = k .some in omega arith)) last))
+
+  pub met-is : sidesMeet s t ≡ meetsCfl (placeSpeed s) (cells s + 1) (s .cellLength) t
+  met-is = same-truth _ _ to-places to-sides
+
+  -- ---- what the sweep found is what grounds 12 and the settling test read
+
+  module _ (net : List ℤ) (depth : List ℕ) (discharge : List ℤ) (w : Swept s t net depth discharge) where
+    below : (z : ℤ) (n : ℕ) → leZ z (pos n) ≡ leb (positive z) n
+    below (pos m) n = refl
+    below (negsuc m) n = sym (le-leb 0 n (omega arith))
+
+    pub depths-are : allBelow (cells s) (λ i. leb (getD depth i 0) depthMost) ≡ depthsFit s t
+    unfolding depthsFit
+    depths-are = all-same _ _ (cells s) (λ i l. rw (w .depths i l) (sym (below (newDepth s t i) depthMost)))
+
+    pub sums-are : sumsKept (s .base) (s .carried) net ≡ keepsSums s t
+    unfolding sumsKept keepsSums summed
+    sums-are =
+        rw (k .bases)
+        (all-same _ _ (cells s) (λ i l. rw (w .nets i (omega arith), w .nets (i + 1) (omega arith), add-one i) refl))
+
+    pub net-at : Mesh t (s .cellLength) → (i : ℕ) → i ≤ cells s → natAbs (getD net i (pos 0)) ≤ fluxMost
+    net-at g i l = rw (w .nets i l) (net-small s (flow-fits s k) t i g l)
+
+    pub summable : Mesh t (s .cellLength) → cells s < length net → Summable (length (s .base)) (s .carried) net
+    summable g n = record {
+      few = omega (arith, k .few, k .bases);
+      interfaces = omega (arith, k .interfaces, k .bases);
+      long = omega (arith, n, k .bases);
+      carried = λ i l. let b = carried-small s k i (omega (arith, k .bases)) in omega arith;
+      crossed = λ i l. let b = net-at g i (omega (arith, k .bases)) in omega arith;
+    }
+
+    -- ---- what is written is what the record after the step holds
+
+    pub depth-written : tabulate (length (s .depth)) (λ i. getD depth i 0) ≡ stepped s t .depth
+    unfolding stepped
+    depth-written = rw (k .depths) (tabulate-same (cells s) _ _ (w .depths))
+
+    pub discharge-written : tabulate (length (s .discharge)) (λ i. getD discharge i (pos 0)) ≡ stepped s t .discharge
+    unfolding stepped
+    discharge-written = rw (k .discharges) (tabulate-same (cells s) _ _ (w .discharges))
+
+    interfaces-kept : length (settledFirst s t .carried) ≡ suc (cells s)
+    unfolding settledFirst transported
+    interfaces-kept = go (keepsSums s t)
+      where
+        go : (b : Bool) → length (cond b s (transported s (s .ends)) .carried) ≡ suc (cells s)
+        go true = k .interfaces ∙ add-one (cells s)
+        go false = length-replicate (length (s .carried)) (pos 0) ∙ k .interfaces ∙ add-one (cells s)
+
+    settled-small : (i : ℕ) → i ≤ cells s → natAbs (carriedAt (settledFirst s t) i) ≤ carriedMost
+    unfolding settledFirst
+    settled-small i l = go (keepsSums s t)
+      where
+        go : (b : Bool) → natAbs (carriedAt (cond b s (transported s (s .ends))) i) ≤ carriedMost
+        go true = carried-small s k i l
+        go false = rw (carried-zero s k (s .ends) i (omega (arith, k .interfaces))) (omega arith)
+
+    module _ (c : List ℤ) (e : c ≡ settledFirst s t .carried) where
+      pub carried-written : tabulate (length c) (λ i. getD c i (pos 0) +ℤ getD net i (pos 0)) ≡ stepped s t .carried
+      unfolding stepped
+      carried-written = rw (e, interfaces-kept) (tabulate-same (suc (cells s)) _ _ (λ i l. ap (λ (n : ℤ). carriedAt (settledFirst s t) i +ℤ n) (w .nets i (omega arith))))
+
+      pub addable : Mesh t (s .cellLength) → (i : ℕ) → i < length c → (natAbs (getD c i (pos 0)) ≤ 1_000_000_000) × (natAbs (getD net i (pos 0)) ≤ 1_000_000_000)
+      addable g i l =
+          let j : i ≤ cells s = omega (arith, ap length e, interfaces-kept) in
+          let a : natAbs (getD c i (pos 0)) ≤ carriedMost = rw e (settled-small i j) in
+          let b = net-at g i j in
+          (omega (arith, a), omega (arith, b))
+
+  -- ---- the settling inside the step
+
+  module _ (v : Bool) (e : v ≡ not (keepsSums s t)) where
+    module _ (a b c d : ℕ) (x : CrossedWhen v (columnsOf s) a b c d) where
+      pub small-when : Small a b c d
+      small-when = go v refl
+        where
+          go : (u : Bool) → v ≡ u → Small a b c d
+          go true p = small s k a b c d (x .settled p)
+          go false p =
+              let z = x .kept p in
+              record { left-in = omega (arith, z .0); left-out = omega (arith, z .1); right-in = omega (arith, z .2); right-out = omega (arith, z .3) }
+
+      pub ready-when : v ≡ true → Ready (columns (s .mass) (s .base) (s .carried) a c)
+      ready-when p = rw (x .settled p .left-in, x .settled p .right-in) (ready s k)
+
+      none : (l : Ledger) → ledgerWith l 0 0 0 0 ≡ l
+      unfolding ledgerWith withMass
+      none l =
+          let plus : (n : ℕ) → n + 0 ≡ n = λ n. omega arith in
+          rw (plus (l .left .«mass_in»), plus (l .left .«mass_out»), plus (l .right .«mass_in»), plus (l .right .«mass_out»)) refl
+
+      ledger-when : ledgerWith (s .ledger) a b c d ≡ settledFirst s t .ledger
+      unfolding settledFirst transported
+      ledger-when = go (keepsSums s t) refl
+        where
+          go : (u : Bool) → keepsSums s t ≡ u → ledgerWith (s .ledger) a b c d ≡ cond u s (transported s (s .ends)) .ledger
+          go true p =
+              let z = x .kept (e ∙ ap not p) in
+              rw (z .0, z .1, z .2, z .3) (none (s .ledger))
+          go false p = ledger-is s k a b c d (x .settled (e ∙ ap not p))
+
+      pub ledger-after : (first last : ℤ) → first ≡ netAt s t 0 → last ≡ netAt s t (cells s) → withEndWater (ledgerWith (s .ledger) a b c d) first last ≡ stepLedger s t
+      unfolding stepLedger
+      ledger-after first last p q = rw (p, q, ledger-when) refl
+
+      pub mass-when : cond v (movedMass (columns (s .mass) (s .base) (s .carried) a c)) (s .mass) ≡ stepped s t .mass
+      unfolding stepped settledFirst transported
+      mass-when = rw e (go (keepsSums s t) refl)
+        where
+          go : (u : Bool) → keepsSums s t ≡ u → cond (not u) (movedMass (columns (s .mass) (s .base) (s .carried) a c)) (s .mass) ≡ cond u s (transported s (s .ends)) .mass
+          go true p = refl
+          go false p = let y = x .settled (e ∙ ap not p) in rw (y .left-in, y .right-in) refl
+
+    pub base-when : cond v (s .depth) (s .base) ≡ stepped s t .base
+    unfolding stepped settledFirst transported
+    base-when = rw e (go (keepsSums s t))
+      where
+        go : (u : Bool) → cond (not u) (s .depth) (s .base) ≡ cond u s (transported s (s .ends)) .base
+        go true = refl
+        go false = refl
+
+    pub carried-when : cond v (replicate (length (s .carried)) (pos 0)) (s .carried) ≡ settledFirst s t .carried
+    unfolding settledFirst transported
+    carried-when = rw e (go (keepsSums s t))
+      where
+        go : (u : Bool) → cond (not u) (replicate (length (s .carried)) (pos 0)) (s .carried) ≡ cond u s (transported s (s .ends)) .carried
+        go true = refl
+        go false = refl
+
+-- ---- what each outcome is
+
+-- no ground has the number 0
+pub refused-positive : (s : Reach) (n : ℕ) → firstRefusal (recordGrounds s (s .ends)) ≡ Refused n → 0 < n
+unfolding numbered
+refused-positive s n e = refused-number (recordGrounds s (s .ends)) n refl e
+
+module _ (s : Reach) (t : ℕ) where
+  pub stopped-before : (n : ℕ) → firstRefusal (recordGrounds s (s .ends)) ≡ Refused n → step s t ≡ record { refusal = n; reach = s }
+  unfolding step
+  stopped-before n e = ap (λ (k : Check). outcome k s (stepped s t)) (no-further (recordGrounds s (s .ends)) _ n e)
+
+  module _ (e : firstRefusal (recordGrounds s (s .ends)) ≡ Pass) where
+    pub stopped-10 : timeFits t ≡ false → step s t ≡ record { refusal = 10; reach = s }
+    unfolding step
+    stopped-10 f = ap (λ (k : Check). outcome k s (stepped s t)) (further (recordGrounds s (s .ends)) _ e ∙ stop-at _ _ f)
+
+    module _ (time : timeFits t ≡ true) where
+      pub stopped-11 : meetsCfl (placeSpeed s) (cells s + 1) (s .cellLength) t ≡ false → step s t ≡ record { refusal = 11; reach = s }
+      unfolding step
+      stopped-11 f = ap (λ (k : Check). outcome k s (stepped s t)) (further (recordGrounds s (s .ends)) _ e ∙ go-on _ _ time (stop-at _ _ f))
+
+      module _ (cfl : meetsCfl (placeSpeed s) (cells s + 1) (s .cellLength) t ≡ true) where
+        pub stopped-12 : depthsFit s t ≡ false → step s t ≡ record { refusal = 12; reach = s }
+        unfolding step
+        stopped-12 f = ap (λ (k : Check). outcome k s (stepped s t)) (further (recordGrounds s (s .ends)) _ e ∙ go-on _ _ time (go-on _ _ cfl (stop-at _ _ f)))
+
+        module _ (deep : depthsFit s t ≡ true) where
+          at-last : (b : Bool) → ledgerFits (stepLedger s t) ≡ b → firstRefusal (stepGrounds s t) ≡ passOr 13 b
+          at-last b f =
+              further (recordGrounds s (s .ends)) _ e ∙ go-on _ _ time (go-on _ _ cfl (go-on _ _ deep (last-one 13 (ledgerFits (stepLedger s t)) ∙ ap (passOr 13) f)))
+
+          pub stopped-13 : ledgerFits (stepLedger s t) ≡ false → step s t ≡ record { refusal = 13; reach = s }
+          unfolding step
+          stopped-13 f = ap (λ (k : Check). outcome k s (stepped s t)) (at-last false f)
+
+          pub stepped-on : ledgerFits (stepLedger s t) ≡ true → step s t ≡ record { refusal = 0; reach = stepped s t }
+          unfolding step
+          stepped-on f = ap (λ (k : Check). outcome k s (stepped s t)) (at-last true f)
+
+  -- a refused step leaves everything as it came
+  pub stayed : (n : ℕ) → 0 < n → step s t ≡ record { refusal = n; reach = s }
+      → StepCameTo s t (stoppedBy n (s .ends) (s .ledger)) (s .depth) (s .discharge) (s .mass) (s .base) (s .carried)
+  unfolding settles
+  stayed n p e =
+      let z : eqb n 0 ≡ false = ne-eqb n 0 (λ q. absurd (omega (arith, p, q))) in
+      record {
+        refusal-is = ap (λ (o : Outcome). o .refusal) (sym e);
+        ends-are = ap (λ (o : Outcome). o .reach .ends) (sym e);
+        ledger-is = ap (λ (o : Outcome). o .reach .ledger) (sym e);
+        settled-is = rw (e, z) refl;
+        depth-is = ap (λ (o : Outcome). o .reach .depth) (sym e);
+        discharge-is = ap (λ (o : Outcome). o .reach .discharge) (sym e);
+        mass-is = ap (λ (o : Outcome). o .reach .mass) (sym e);
+        base-is = ap (λ (o : Outcome). o .reach .base) (sym e);
+        carried-is = ap (λ (o : Outcome). o .reach .carried) (sym e);
+      }
+
+  pub settles-is : step s t ≡ record { refusal = 0; reach = stepped s t } → settles s t ≡ not (keepsSums s t)
+  unfolding settles
+  settles-is e = rw e refl
+
+  -- an accepted one leaves the record after the step
+  pub came : {l : Ledger} {v : Bool} {h : List ℕ} {q : List ℤ} {m b : List ℕ} {c : List ℤ} → step s t ≡ record { refusal = 0; reach = stepped s t }
+      → l ≡ stepLedger s t → v ≡ not (keepsSums s t)
+      → h ≡ stepped s t .depth → q ≡ stepped s t .discharge → m ≡ stepped s t .mass → b ≡ stepped s t .base → c ≡ stepped s t .carried
+      → StepCameTo s t (record { refusal = 0; ends = s .ends; ledger = l; settled = v }) h q m b c
+  unfolding stepped
+  came e l v h q m b c = record {
+    refusal-is = ap (λ (o : Outcome). o .refusal) (sym e);
+    ends-are = ap (λ (o : Outcome). o .reach .ends) (sym e);
+    ledger-is = l ∙ ap (λ (o : Outcome). o .reach .ledger) (sym e);
+    settled-is = v ∙ sym (settles-is e);
+    depth-is = h ∙ ap (λ (o : Outcome). o .reach .depth) (sym e);
+    discharge-is = q ∙ ap (λ (o : Outcome). o .reach .discharge) (sym e);
+    mass-is = m ∙ ap (λ (o : Outcome). o .reach .mass) (sym e);
+    base-is = b ∙ ap (λ (o : Outcome). o .reach .base) (sym e);
+    carried-is = c ∙ ap (λ (o : Outcome). o .reach .carried) (sym e);
+  }

@@ -1,0 +1,157 @@
+-- `stepping::step::step` meets its contract: it stops at grounds 4 to 10, or goes on to `advance`. Assumes nothing.
+use mathlib.Core.Path.{_≡_, sym, ap, _∙_, subst}
+use denote.Ref.{now}
+use Prim.Native.Nat.{ℕ}
+use native.Mathlib.Omega.{arith}
+use borrow.Author.Needs.{needs}
+use Rattle.reach.specs.Reach.{Reach, reachOf}
+use Rattle.reach.specs.Grounds.{firstRefusal, recordGrounds, numberOf}
+use Rattle.reach.specs.declared.refusal.Check.{Check}
+use Rattle.reach.specs.declared.refusal.Check.the-variants.{Pass}
+use Rattle.reach.proofs.GroundsLaws.{passed, refused-by}
+use Rattle.stepping.specs.Step.{stoppedBy, StepCameTo}
+use Rattle.stepping.specs.declared.step.Stepped.{Stepped}
+use Rattle.stepping.proofs.StepCallLaws.{stopped-before, stopped-10, stayed, refused-positive}
+use Rattle.stepping.proofs.step.step.Statement.{statement}
+use Rattle.stepping.proofs.step.step.Tie as tie
+
+abbrev entry : tie.After-check-record → tie.Start
+entry c = c .before .before .before .before .before .before .before .before .before
+
+abbrev reach : tie.Start → Reach
+reach s =
+    reachOf (now (s .args .z)) (now (s .args .h)) (now (s .args .q)) (now (s .args .m)) (now (s .args .b)) (now (s .args .c)) (s .args .x) (s .args .ends) (s .args .ledger)
+
+-- a refused step, whatever its answer is called
+as-it-came : (s : tie.Start) (r : Stepped) (n : ℕ) → r ≡ stoppedBy n (s .args .ends) (s .args .ledger)
+    → StepCameTo (reach s) (s .args .t) (stoppedBy n (s .args .ends) (s .args .ledger)) (now (s .args .h)) (now (s .args .q)) (now (s .args .m)) (now (s .args .b)) (now (s .args .c))
+    → StepCameTo (reach s) (s .args .t) r (now (s .args .h)) (now (s .args .q)) (now (s .args .m)) (now (s .args .b)) (now (s .args .c))
+as-it-came s r n e = subst (λ (r : Stepped). StepCameTo (reach s) (s .args .t) r (now (s .args .h)) (now (s .args .q)) (now (s .args .m)) (now (s .args .b)) (now (s .args .c))) (sym e)
+
+checked : (c : tie.After-enum-told) → firstRefusal (recordGrounds (reach (entry (c .before .before))) (entry (c .before .before) .args .ends)) ≡ Pass
+checked c = sym (c .before .before .check-record .ensures) ∙ c .enum-told .given .1
+
+check-record-requires : tie.Need-check-record-requires
+check-record-requires c κs = search needs
+
+enum-told : tie.Need-enum-told
+enum-told c = search needs
+
+enum-told-2 : tie.Need-enum-told-2
+enum-told-2 c = search needs
+
+refused-requires : tie.Need-refused-requires
+refused-requires c κs = search needs
+
+same-length : tie.Need-same-length
+same-length c = search needs
+
+same-length-2 : tie.Need-same-length-2
+same-length-2 c = search needs
+
+same-length-3 : tie.Need-same-length-3
+same-length-3 c = search needs
+
+same-length-4 : tie.Need-same-length-4
+same-length-4 c = search needs
+
+same-length-5 : tie.Need-same-length-5
+same-length-5 c = search needs
+
+returns : tie.Need-returns
+returns c =
+    let k = c .before .before .before in
+    let s = entry k in
+    let t = c .before .enum-told2 .given in
+    let n = t .0 .0 in
+    let e = sym (k .check-record .ensures) ∙ t .1 in
+    as-it-came s _ n (c .refused .ensures ∙ ap (λ (k : Check). stoppedBy (numberOf k) (s .args .ends) (s .args .ledger)) (t .1))
+    (stayed (reach s) (s .args .t) n (refused-positive (reach s) n e) (stopped-before (reach s) (s .args .t) n e))
+
+check-time-requires : tie.Need-check-time-requires
+check-time-requires c κs = search needs
+
+enum-told-3 : tie.Need-enum-told-3
+enum-told-3 c = search needs
+
+enum-told-4 : tie.Need-enum-told-4
+enum-told-4 c = search needs
+
+stopped-requires : tie.Need-stopped-requires
+stopped-requires c κs = search needs
+
+same-length-6 : tie.Need-same-length-6
+same-length-6 c = search needs
+
+same-length-7 : tie.Need-same-length-7
+same-length-7 c = search needs
+
+same-length-8 : tie.Need-same-length-8
+same-length-8 c = search needs
+
+same-length-9 : tie.Need-same-length-9
+same-length-9 c = search needs
+
+same-length-10 : tie.Need-same-length-10
+same-length-10 c = search needs
+
+returns-2 : tie.Need-returns-2
+returns-2 c =
+    let s = entry (c .before .before .before .before .before .before) in
+    as-it-came s _ 10 (c .stopped .ensures)
+    (stayed (reach s) (s .args .t) 10 (omega arith)
+    (stopped-10 (reach s) (s .args .t) (checked (c .before .before .before .before)) (refused-by 10 _ _ _ (c .before .before .before .check-time .ensures) (c .before .enum-told4 .given .1))))
+
+advance-requires : tie.Need-advance-requires
+advance-requires c κs =
+    (checked (c .before .before .before .before .before .before .before .before), passed 10 _ _ (c .before .before .before .before .before .before .before .check-time .ensures) (c .before .before .before .before .before .enum-told3 .given .1))
+
+same-length-11 : tie.Need-same-length-11
+same-length-11 c = search needs
+
+same-length-12 : tie.Need-same-length-12
+same-length-12 c = search needs
+
+same-length-13 : tie.Need-same-length-13
+same-length-13 c = search needs
+
+same-length-14 : tie.Need-same-length-14
+same-length-14 c = search needs
+
+same-length-15 : tie.Need-same-length-15
+same-length-15 c = search needs
+
+returns-3 : tie.Need-returns-3
+returns-3 c = c .before .before .before .before .before .before .before .before .advance .ensures
+
+pub step-spec : {M : Type 1} → statement M
+step-spec =
+    tie.close
+    (tie.spec
+    check-record-requires
+    enum-told
+    enum-told-2
+    refused-requires
+    same-length
+    same-length-2
+    same-length-3
+    same-length-4
+    same-length-5
+    returns
+    check-time-requires
+    enum-told-3
+    enum-told-4
+    stopped-requires
+    same-length-6
+    same-length-7
+    same-length-8
+    same-length-9
+    same-length-10
+    returns-2
+    advance-requires
+    same-length-11
+    same-length-12
+    same-length-13
+    same-length-14
+    same-length-15
+    returns-3)
