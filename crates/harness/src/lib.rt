@@ -11,6 +11,7 @@ ghost use Rattle.flux.specs.Ranges.{Mesh};
 ghost use Rattle.reach.specs.Reach.{reachOf};
 ghost use Rattle.transport.specs.Calls.{setBoundaries, transport as transportOf, CameTo};
 ghost use Rattle.stepping.specs.GreatestStep.{greatest};
+ghost use Rattle.stepping.specs.Step.{StepCameTo};
 ghost use Rattle.harness.specs.Sides.{InRange, FacingIs, side};
 use flux::crossing::crossing_of;
 use flux::crossing::still_thrust;
@@ -25,6 +26,7 @@ use numbers::signed::right_part;
 use reach::boundary::Boundary;
 use reach::ledger::Ledger;
 use stepping::Greatest;
+use stepping::step::Stepped;
 use transport::Answer;
 
 #[no_mangle]
@@ -177,4 +179,23 @@ pub extern "C" fn harness_greatest_step(
 {
     let ends = held.ends;
     stepping::greatest_step(z, h, q, m, b, c, x, ends, ledger)
+}
+
+#[no_mangle]
+pub extern "C" fn harness_step(
+    z: &[i64],
+    h: &mut [u64],
+    q: &mut [i64],
+    m: &mut [u64],
+    b: &mut [u64],
+    c: &mut [i64],
+    x: u64,
+    held: Pair,
+    ledger: Ledger,
+    t: u64,
+) -> Stepped
+    ensures { λ r. ⌜ StepCameTo (reachOf (now (z .entry)) (now (h .entry)) (now (q .entry)) (now (m .entry)) (now (b .entry)) (now (c .entry)) x (held .ends) ledger) t r (now (h .exit)) (now (q .exit)) (now (m .exit)) (now (b .exit)) (now (c .exit)) ⌝ }
+{
+    let ends = held.ends;
+    stepping::step::step(z, h, q, m, b, c, x, ends, ledger, t)
 }

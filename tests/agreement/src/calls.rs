@@ -2,7 +2,7 @@
 
 use reference::random::Record;
 use reference::record::{Answer, Book, Columns, End, Totals};
-use reference::GreatestAnswer;
+use reference::{GreatestAnswer, StepAnswer};
 
 #[repr(C)]
 #[derive(Clone, Copy)]
@@ -50,6 +50,14 @@ struct RawGreatest {
     ledger: Ledger,
     time: u64,
     place: usize,
+}
+
+#[repr(C)]
+struct RawStepped {
+    refusal: u32,
+    ends: [Boundary; 2],
+    ledger: Ledger,
+    settled: bool,
 }
 
 // A slice goes to C as a pointer and a length, bed level, depth, discharge, mass, base depth and carried water in this order.
@@ -106,6 +114,24 @@ extern "C" {
         held: Pair,
         ledger: Ledger,
     ) -> RawGreatest;
+    fn harness_step(
+        z: *const i64,
+        zn: usize,
+        h: *mut u64,
+        hn: usize,
+        q: *mut i64,
+        qn: usize,
+        m: *mut u64,
+        mn: usize,
+        b: *mut u64,
+        bn: usize,
+        c: *mut i64,
+        cn: usize,
+        x: u64,
+        held: Pair,
+        ledger: Ledger,
+        t: u64,
+    ) -> RawStepped;
 }
 
 fn boundary(e: End) -> Boundary {
@@ -175,16 +201,17 @@ fn pair(ends: [End; 2]) -> Pair {
     }
 }
 
-/// Calls `$function` with the record's columns, X, ends and book, and whatever follows.
+/// Calls `$function` with the record's columns, X, ends and book, and whatever follows. `$water` lends depth and discharge,
+/// `$slice` nutrient, base depth and carried water; nothing writes the bed level.
 macro_rules! call {
-    ($function:ident, $record:expr, $slice:ident $(, $more:expr)*) => {{
+    ($function:ident, $record:expr, $water:ident, $slice:ident $(, $more:expr)*) => {{
         let Record { columns, x, ends, book } = $record;
         let Columns { bed, depth, discharge, nutrient, base, carried } = columns;
         unsafe {
             $function(
                 bed.as_ptr(), bed.len(),
-                depth.as_ptr(), depth.len(),
-                discharge.as_ptr(), discharge.len(),
+                depth.$water(), depth.len(),
+                discharge.$water(), discharge.len(),
                 nutrient.$slice(), nutrient.len(),
                 base.$slice(), base.len(),
                 carried.$slice(), carried.len(),
@@ -195,20 +222,36 @@ macro_rules! call {
 }
 
 pub fn settle(r: &mut Record) -> Answer {
-    answer(call!(harness_transport, r, as_mut_ptr))
+    answer(call!(harness_transport, r, as_ptr, as_mut_ptr))
 }
 
 pub fn set_ends(r: &mut Record, new: [End; 2]) -> Answer {
-    answer(call!(harness_set_boundaries, r, as_mut_ptr, pair(new)))
+    answer(call!(
+        harness_set_boundaries,
+        r,
+        as_ptr,
+        as_mut_ptr,
+        pair(new)
+    ))
 }
 
 pub fn greatest_step(r: &Record) -> GreatestAnswer {
-    let g = call!(harness_greatest_step, r, as_ptr);
+    let g = call!(harness_greatest_step, r, as_ptr, as_ptr);
     GreatestAnswer {
         refusal: g.refusal,
         ends: g.ends.map(end),
         book: book(g.ledger),
         t: g.time.try_into().expect("a time step"),
         place: g.place.try_into().expect("a place"),
+    }
+}
+
+pub fn step(r: &mut Record, t: u64) -> StepAnswer {
+    let s = call!(harness_step, r, as_mut_ptr, as_mut_ptr, t);
+    StepAnswer {
+        refusal: s.refusal,
+        ends: s.ends.map(end),
+        book: book(s.ledger),
+        settled: s.settled,
     }
 }

@@ -1,6 +1,7 @@
 //! The proved functions, each behind a safe wrapper that tests what its contract requires.
 //! Nothing checks these declarations against crates/harness/src/lib.rt: keep the two side by side.
 
+pub mod both;
 pub mod calls;
 
 pub const DEEPEST: u64 = 4_000_000;

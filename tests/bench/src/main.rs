@@ -1,10 +1,15 @@
 //! Speed as a ratio to plain Rust, both built for release and measured in one run. Not a test: it prints, and fails on nothing.
 //!
 //! Each pair goes over the same inputs in turn, one call of a function that is not inlined at a time; the least of several
-//! rounds counts, since whatever else the machine does only adds time.
+//! rounds counts, since whatever else the machine does only adds time. An argument picks the lines whose name it is part of.
 
+mod fast;
+
+use agreement::both::broken;
 use reference::flux;
-use reference::random::{record_of, Random, Record};
+use reference::random::{any_record, end_of_kind, record_of, Random, Record};
+use reference::record::{FED, OPEN};
+use reference::{Book, Columns};
 use std::hint::black_box;
 use std::time::Instant;
 
@@ -20,14 +25,18 @@ fn round<I: Copy, O>(inputs: &[I], call: &impl Fn(I) -> O) -> f64 {
     start.elapsed().as_secs_f64() * 1e9 / inputs.len() as f64
 }
 
-/// Prints nanoseconds a call of both, and ours over theirs.
+/// Prints nanoseconds a call of both, and ours over theirs; gives ours, or no number where the line was not picked.
 fn compare<I: Copy, A, B>(
     name: &str,
     inputs: &[I],
     ours: impl Fn(I) -> A,
     theirs: impl Fn(I) -> B,
     most: f64,
-) {
+) -> f64 {
+    let only = std::env::args().nth(1).unwrap_or_default();
+    if !name.contains(&only) {
+        return f64::NAN;
+    }
     let (mut proved, mut plain) = (f64::MAX, f64::MAX);
     for _ in 0..ROUNDS {
         proved = proved.min(round(inputs, &ours));
@@ -35,6 +44,7 @@ fn compare<I: Copy, A, B>(
     }
     let ratio = proved / plain;
     println!("{name:<40} {proved:>9.1} ns {plain:>9.1} ns   ratio {ratio:.2}, aim at most {most}");
+    proved
 }
 
 #[inline(never)]
@@ -84,9 +94,136 @@ fn compare_greatest(r: &mut Random, cells: usize) {
     );
 }
 
+/// A step about to be made.
+struct Planned {
+    record: Record,
+    t: u32,
+}
+
+/// A gentle flow of 0.5 to 1.5 m/s in water 1 to 2 m deep, cells of 10 m, fed at the left and open at the right. The bed falls by
+/// `slope` a cell, and every cell differs a little from its neighbours.
+fn flow(r: &mut Random, cells: usize, slope: i64) -> Record {
+    let mut columns = Columns::of_cells(cells);
+    let (depth, speed) = (r.between(1_000_000, 2_000_000), r.between(500, 1_500));
+    for i in 0..cells {
+        let h = depth + r.between(-20_000, 20_000);
+        columns.bed[i] = -slope * i as i64;
+        columns.depth[i] = h as u64;
+        columns.base[i] = h as u64;
+        columns.discharge[i] = h * speed + r.between(-20, 20) * h;
+        columns.nutrient[i] = r.below(500_000) * h as u64;
+    }
+    let mut ends = [FED, OPEN].map(|kind| end_of_kind(r, kind));
+    ends[0].depth = depth as u32;
+    ends[0].discharge = depth * speed;
+    Record {
+        columns,
+        x: 10_000,
+        ends,
+        book: Book::default(),
+    }
+}
+
+fn reference_step(p: &mut Planned) -> reference::StepAnswer {
+    let Record {
+        columns,
+        x,
+        ends,
+        book,
+    } = &mut p.record;
+    reference::step(columns, *x, *ends, *book, p.t)
+}
+
+/// Accepted greatest steps that settle, or that keep their sums, each out of a flow of its own some steps old.
+fn planned(r: &mut Random, cells: usize, slope: i64, settles: bool) -> Vec<Planned> {
+    let mut list = Vec::new();
+    while list.len() < 40 {
+        let mut now = flow(r, cells, slope);
+        let mut age = r.below(30);
+        loop {
+            let t = reference::greatest_step(&now.columns, now.x, now.ends, now.book).t;
+            let before = now.clone();
+            let mut p = Planned { record: now, t };
+            let answer = reference_step(&mut p);
+            assert_eq!(answer.refusal, 0);
+            if age == 0 && answer.settled == settles {
+                list.push(Planned { record: before, t });
+                break;
+            }
+            now = p.record;
+            now.book = answer.book;
+            age = age.saturating_sub(1);
+        }
+    }
+    list
+}
+
+/// One step, ours against the one written for speed; putting the record back as it came counts for both. Gives our nanoseconds.
+fn compare_step(name: &str, list: &[Planned]) -> f64 {
+    let scratch = std::cell::RefCell::new(list[0].record.clone());
+    compare(
+        name,
+        &(0..list.len()).collect::<Vec<_>>(),
+        |i| {
+            let mut record = scratch.borrow_mut();
+            record.clone_from(&list[i].record);
+            agreement::calls::step(&mut record, list[i].t.into())
+        },
+        |i| {
+            let mut record = scratch.borrow_mut();
+            record.clone_from(&list[i].record);
+            let (x, ends, book) = (record.x, record.ends, record.book);
+            fast::step(&mut record.columns, x, ends, book, list[i].t)
+        },
+        1.0,
+    )
+}
+
+/// Steps that keep their sums, steps that settle, and steps over a flat bed, of 512 and of 64 cells.
+fn compare_steps(r: &mut Random) {
+    let kinds = [
+        ("sloping bed", 1_000, false),
+        ("sloping bed, settling", 1_000, true),
+        ("flat bed", 0, false),
+    ];
+    for (kind, slope, settles) in kinds {
+        let [long, short] = [512, 64].map(|cells| {
+            let list = planned(r, cells, slope, settles);
+            compare_step(&format!("step of {cells} cells, {kind}"), &list) / cells as f64
+        });
+        let ratio = long / short;
+        if ratio.is_nan() {
+            continue;
+        }
+        println!(
+            "{:<40} {long:>9.1} ns {short:>9.1} ns   ratio {ratio:.2}, aim 0.9 to 1.1",
+            "  ours a cell, of 512 and of 64"
+        );
+    }
+}
+
+/// The step written for speed gives what the second implementation gives, refusals included.
+fn fast_step_agrees(r: &mut Random) {
+    for _ in 0..2_000 {
+        let sound = any_record(r);
+        let most = reference::greatest_step(&sound.columns, sound.x, sound.ends, sound.book).t;
+        let any = r.between(0, 1_001) as u32;
+        let mut list: Vec<(Record, u32)> = [most, most + 1, any].map(|t| (sound.clone(), t)).into();
+        list.extend(broken(r, &sound).into_iter().map(|b| (b.record, most)));
+        for (record, t) in list {
+            let mut fast = record.clone();
+            let answer = fast::step(&mut fast.columns, record.x, record.ends, record.book, t);
+            let mut p = Planned { record, t };
+            assert_eq!(answer, reference_step(&mut p));
+            assert_eq!(fast, p.record);
+        }
+    }
+}
+
 fn main() {
     println!("{:<40} {:>12} {:>12}", "a call", "proved", "plain Rust");
     let mut r = Random::new(1);
+    fast_step_agrees(&mut r);
     let depths: Vec<u64> = (0..INPUTS).map(|_| r.below(4_000_001)).collect();
     compare(
         "wave speed, against u64::isqrt",
@@ -107,4 +244,5 @@ fn main() {
     );
     compare_settling(&mut r, 512);
     compare_greatest(&mut r, 512);
+    compare_steps(&mut r);
 }
