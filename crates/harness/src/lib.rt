@@ -6,17 +6,14 @@ ghost use Rattle.flux.specs.Limits.{depthMost, velocityMost, bedMost};
 ghost use Rattle.flux.specs.Wave.{waveSpeed};
 ghost use Rattle.flux.specs.Velocity.{velocity};
 ghost use Rattle.flux.specs.Crossing.{waterFlux, momentumFlux, stillThrust};
-ghost use Rattle.flux.specs.Interface.{reducedDepth, netWater, momentumSum};
+ghost use Rattle.flux.specs.Interface.{reducedDepth};
 ghost use Rattle.flux.specs.Ranges.{Mesh};
 ghost use Rattle.reach.specs.Reach.{reachOf};
 ghost use Rattle.transport.specs.Calls.{setBoundaries, transport as transportOf, CameTo};
 ghost use Rattle.stepping.specs.GreatestStep.{greatest};
 ghost use Rattle.stepping.specs.Step.{StepCameTo};
-ghost use Rattle.harness.specs.Sides.{InRange, FacingIs, side};
 use flux::crossing::crossing_of;
 use flux::crossing::still_thrust;
-use flux::interface::Facing;
-use flux::interface::exchange_of;
 use flux::interface::reduced_depth;
 use flux::velocity::velocity_parts;
 use flux::wave::wave_speed;
@@ -74,49 +71,6 @@ pub extern "C" fn harness_reduced_depth(h: u64, z: i64, beside: i64) -> u64
     ensures { λ r. ⌜ r ≡ reducedDepth h z beside ⌝ }
 {
     reduced_depth(h, z, beside)
-}
-
-// a side at its reduced depth h
-fn facing_of(h: u64, u: i64) -> Facing
-    requires { ⌜ (h ≤ depthMost) × (natAbs u ≤ velocityMost) ⌝ }
-    ensures { λ r. ⌜ FacingIs h u (r .depth) (r .wave) (r .right) (r .left) ⌝ }
-{
-    Facing {
-        depth: h,
-        wave: wave_speed(h),
-        right: right_part(u),
-        left: left_part(u),
-    }
-}
-
-// N and P of the interface between a left side (zl, hl, ul) and a right side (zr, hr, ur)
-#[repr(C)]
-pub struct Net {
-    pub water: i64,
-    pub momentum: u64,
-}
-
-#[no_mangle]
-pub extern "C" fn harness_net(
-    t: u64,
-    x: u64,
-    zl: i64,
-    hl: u64,
-    ul: i64,
-    zr: i64,
-    hr: u64,
-    ur: i64,
-) -> Net
-    requires { ⌜ Mesh t x × (InRange zl hl ul × InRange zr hr ur) ⌝ }
-    ensures { λ r. ⌜ (r .water ≡ netWater t x (side zl hl ul) (side zr hr ur)) × (r .momentum ≡ momentumSum t x (side zl hl ul) (side zr hr ur)) ⌝ }
-{
-    let l = facing_of(reduced_depth(hl, zl, zr), ul);
-    let r = facing_of(reduced_depth(hr, zr, zl), ur);
-    let e = exchange_of(t, x, l, r);
-    Net {
-        water: joined(e.rightward, e.leftward),
-        momentum: e.momentum,
-    }
 }
 
 // Both boundaries, as C passes them

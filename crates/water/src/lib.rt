@@ -11,9 +11,8 @@ ghost use Rattle.flux.specs.Velocity.{velocity};
 ghost use Rattle.water.specs.Ranges.{sideOf, CellFits, Crosses, CrossingFits};
 ghost use Rattle.water.specs.Sides.{boundarySide};
 ghost use Rattle.water.specs.Water.{nearest};
+use flux::crossing::crossing_of;
 use flux::crossing::still_thrust;
-use flux::interface::Facing;
-use flux::interface::exchange_of;
 use flux::interface::reduced_depth;
 use flux::interface::reduced_wave;
 use flux::velocity::velocity_parts;
@@ -99,26 +98,13 @@ pub fn crossing_between(t: u64, x: u64, l: Cell, r: Cell) -> Crossing
     let hr = reduced_depth(r.depth, r.bed, l.bed);
     let al = reduced_wave(hl, l.depth, l.wave);
     let ar = reduced_wave(hr, r.depth, r.wave);
-    let e = exchange_of(
-        t,
-        x,
-        Facing {
-            depth: hl,
-            wave: al,
-            right: l.right,
-            left: l.left,
-        },
-        Facing {
-            depth: hr,
-            wave: ar,
-            right: r.right,
-            left: r.left,
-        },
-    );
+    let a = crossing_of(t, x, hl, al, l.right, l.left);
+    // turned round: what the right side sends leftwards is what a mirrored reach would send rightwards
+    let b = crossing_of(t, x, hr, ar, r.left, r.right);
     Crossing {
-        rightward: e.rightward,
-        leftward: e.leftward,
-        momentum: e.momentum,
+        rightward: a.water,
+        leftward: b.water,
+        momentum: a.momentum + b.momentum,
         lost_left: thrust_lost(t, x, l.depth, l.wave, hl, al),
         lost_right: thrust_lost(t, x, r.depth, r.wave, hr, ar),
     }

@@ -17,36 +17,15 @@ pub struct Side {
     pub still: u64,
 }
 
-/// N and P of an interface.
-#[repr(C)]
-#[derive(Clone, Copy, Debug, PartialEq, Eq)]
-pub struct Net {
-    pub water: i64,
-    pub momentum: u64,
-}
-
-/// Bed level, depth and velocity of one side.
-#[derive(Clone, Copy, Debug)]
-pub struct Body {
-    pub bed: i64,
-    pub depth: u64,
-    pub velocity: i64,
-}
-
 extern "C" {
     fn harness_wave_speed(h: u64) -> u64;
     fn harness_side(t: u64, x: u64, h: u64, u: i64) -> Side;
     fn harness_velocity(h: u64, q: i64) -> i64;
     fn harness_reduced_depth(h: u64, z: i64, beside: i64) -> u64;
-    fn harness_net(t: u64, x: u64, zl: i64, hl: u64, ul: i64, zr: i64, hr: u64, ur: i64) -> Net;
 }
 
 fn mesh(t: u64, x: u64) {
     assert!(t <= 1_000 && (100..=100_000).contains(&x));
-}
-
-fn in_range(b: &Body) {
-    assert!(b.bed.abs() <= HIGHEST && b.depth <= DEEPEST && b.velocity.abs() <= FASTEST);
 }
 
 pub fn wave_speed(h: u64) -> u64 {
@@ -68,11 +47,4 @@ pub fn velocity(h: u64, q: i64) -> i64 {
 pub fn reduced_depth(h: u64, z: i64, beside: i64) -> u64 {
     assert!(z.abs() <= HIGHEST && beside.abs() <= HIGHEST);
     unsafe { harness_reduced_depth(h, z, beside) }
-}
-
-pub fn net(t: u64, x: u64, l: Body, r: Body) -> Net {
-    mesh(t, x);
-    in_range(&l);
-    in_range(&r);
-    unsafe { harness_net(t, x, l.bed, l.depth, l.velocity, r.bed, r.depth, r.velocity) }
 }

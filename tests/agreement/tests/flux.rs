@@ -1,6 +1,6 @@
 //! The lowest layer against the second implementation.
 
-use agreement::{net, reduced_depth, side, velocity, wave_speed, Body, DEEPEST, FASTEST, HIGHEST};
+use agreement::{reduced_depth, side, velocity, wave_speed, DEEPEST, FASTEST, HIGHEST};
 use reference::flux;
 use reference::random::Random;
 
@@ -12,7 +12,6 @@ const VELOCITIES: [i64; 13] = [
 ];
 const TIMES: [u64; 6] = [0, 1, 2, 100, 999, 1_000];
 const LENGTHS: [u64; 6] = [100, 101, 1_000, 12_345, 99_999, 100_000];
-const BEDS: [i64; 7] = [-HIGHEST, -DEEPEST_SIGNED, -1, 0, 1, DEEPEST_SIGNED, HIGHEST];
 const DEEPEST_SIGNED: i64 = DEEPEST as i64;
 
 fn same_side(t: u64, x: u64, h: u64, u: i64) {
@@ -21,21 +20,6 @@ fn same_side(t: u64, x: u64, h: u64, u: i64) {
         (ours.water, ours.momentum, ours.still),
         (theirs.water, theirs.momentum, theirs.still),
         "t {t} X {x} h {h} u {u}"
-    );
-}
-
-fn same_net(t: u64, x: u64, l: Body, r: Body) {
-    let water = |b: Body| flux::Water {
-        bed: b.bed,
-        depth: b.depth,
-        speed: b.velocity,
-        wave: flux::wave_speed(b.depth),
-    };
-    let (ours, theirs) = (net(t, x, l, r), flux::interface(t, x, water(l), water(r)));
-    assert_eq!(
-        (ours.water, ours.momentum as i64),
-        (theirs.water, theirs.push),
-        "t {t} X {x} {l:?} {r:?}"
     );
 }
 
@@ -51,33 +35,6 @@ fn pick(r: &mut Random, low: i64, high: i64) -> i64 {
 fn depth(r: &mut Random) -> u64 {
     let most = [10, 2_000, 80_000, DEEPEST_SIGNED][r.below(4) as usize];
     pick(r, 0, most) as u64
-}
-
-fn body(r: &mut Random, around: i64) -> Body {
-    let bed = (around + pick(r, -2_000_000, 2_000_000)).clamp(-HIGHEST, HIGHEST);
-    Body {
-        bed,
-        depth: depth(r),
-        velocity: pick(r, -FASTEST, FASTEST),
-    }
-}
-
-/// The two-cell run of document 01: depths 1,000,000 and 100,000 at rest become 907,155 and 192,845, both with a discharge of
-/// 242,672,160, and Q(1,000,000, 0) is 245,120,400.
-#[test]
-fn interface_of_the_two_cell_run() {
-    let still = |depth| Body {
-        bed: 0,
-        depth,
-        velocity: 0,
-    };
-    let middle = net(100, 1_000, still(1_000_000), still(100_000));
-    assert_eq!(middle.water, 1_000_000 - 907_155);
-    assert_eq!(middle.water, 192_845 - 100_000);
-    let wall = net(100, 1_000, still(1_000_000), still(1_000_000));
-    assert_eq!(wall.water, 0);
-    assert_eq!(wall.momentum, 2 * 245_120_400);
-    assert_eq!(wall.momentum - middle.momentum, 242_672_160);
 }
 
 #[test]
@@ -128,43 +85,6 @@ fn sides_about_the_critical_velocity() {
                 }
             }
         }
-    }
-}
-
-#[test]
-fn interfaces_at_the_corners() {
-    let mut bodies = Vec::new();
-    for bed in BEDS {
-        for depth in [0, 1, 100_000, DEEPEST] {
-            for velocity in [-FASTEST, 0, 1, FASTEST] {
-                bodies.push(Body {
-                    bed,
-                    depth,
-                    velocity,
-                });
-            }
-        }
-    }
-    for &l in &bodies {
-        for &r in &bodies {
-            same_net(1_000, 100, l, r);
-            same_net(7, 99_999, l, r);
-        }
-    }
-}
-
-#[test]
-fn interfaces_at_a_million_random_inputs() {
-    let mut r = Random::new(5);
-    for _ in 0..1_000_000 {
-        let around = pick(&mut r, -HIGHEST, HIGHEST);
-        let (left, right) = (body(&mut r, around), body(&mut r, around));
-        same_net(
-            pick(&mut r, 1, 1_000) as u64,
-            pick(&mut r, 100, 100_000) as u64,
-            left,
-            right,
-        );
     }
 }
 

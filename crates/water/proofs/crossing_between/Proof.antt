@@ -10,6 +10,7 @@ use Rattle.flux.specs.Crossing.{waterFlux, momentumFlux, stillThrust}
 use Rattle.flux.specs.Interface.{reducedDepth, leftDepth, rightDepth, momentumSum}
 use Rattle.flux.specs.Ranges.{Flow}
 use Rattle.flux.specs.Wave.{waveSpeed}
+use Rattle.flux.proofs.CrossingLaws.{momentum-flux-small}
 use Rattle.flux.proofs.InterfaceLaws.{reduced-depth-le}
 use Rattle.water.specs.Ranges.{sideOf, Crosses}
 use Rattle.water.proofs.WaterLaws.{crossing-fits}
@@ -60,65 +61,76 @@ reduced-wave-requires-2 c κs =
     let s = entry (c .before .before .before .before) in
     (right-deep (c .before), s .pre .1 .1 .wave)
 
-exchange-of-requires : tie.Need-exchange-of-requires
-exchange-of-requires c κs =
-    let b = c .before .before in
-    let s = entry (b .before .before .before) in
-    let p = s .pre .1 in (
-      s .pre .0,
-      (
-        record { depth = left-deep (b .before .before .before); wave = c .before .reduced-wave .ensures; right-most = p .0 .right-most; left-most = p .0 .left-most },
-        record { depth = right-deep b; wave = c .reduced-wave2 .ensures; right-most = p .1 .right-most; left-most = p .1 .left-most },
-      ),
-    )
+-- either side at its reduced depth
+left-flow : (c : tie.After-reduced-wave2) → let s = entry (c .before .before .before .before .before) .args in Flow (c .before .before .before .before .before .reduced-depth .result) (c .before .reduced-wave .result) (s .l .right) (s .l .left)
+left-flow c =
+    let k = c .before .before .before .before .before in
+    let p = entry k .pre .1 .0 in
+    record { depth = left-deep k; wave = c .before .reduced-wave .ensures; right-most = p .right-most; left-most = p .left-most }
+
+right-flow : (c : tie.After-reduced-wave2) → let s = entry (c .before .before .before .before .before) .args in Flow (c .before .before .reduced-depth2 .result) (c .reduced-wave2 .result) (s .r .left) (s .r .right)
+right-flow c =
+    let p = entry (c .before .before .before .before .before) .pre .1 .1 in
+    record { depth = right-deep (c .before .before); wave = c .reduced-wave2 .ensures; right-most = p .left-most; left-most = p .right-most }
+
+crossing-of-requires : tie.Need-crossing-of-requires
+crossing-of-requires c κs = (entry (c .before .before .before .before .before) .pre .0, left-flow c)
+
+crossing-of-requires-2 : tie.Need-crossing-of-requires-2
+crossing-of-requires-2 c κs = (entry (c .before .before .before .before .before .before) .pre .0, right-flow (c .before))
+
+add-t11 : tie.Need-add-t11
+add-t11 c =
+    let k = c .before .before .before .before in
+    let g = entry (k .before .before .before .before .before) .pre .0 in
+    omega (arith, c .before .before .before .crossing-of .ensures .1, c .before .before .crossing-of2 .ensures .1, momentum-flux-small g (left-flow k), momentum-flux-small g (right-flow k))
 
 thrust-lost-requires : tie.Need-thrust-lost-requires
 thrust-lost-requires c κs =
-    let b = c .before .before .before in
-    let s = entry (b .before .before .before) in
+    let k = c .before .before .before .before in
+    let s = entry (k .before .before .before .before .before) in
     let p = s .pre .1 .0 in (
       s .pre .0,
       (
         record { depth = p .depth; wave = p .wave; right-most = omega arith; left-most = omega arith },
-        (
-          record { depth = left-deep (b .before .before .before); wave = c .before .before .reduced-wave .ensures; right-most = omega arith; left-most = omega arith },
-          left-le (b .before .before .before),
-        ),
+        (record { depth = left-flow k .depth; wave = left-flow k .wave; right-most = omega arith; left-most = omega arith }, left-le (k .before .before .before .before .before)),
       ),
     )
 
 thrust-lost-requires-2 : tie.Need-thrust-lost-requires-2
 thrust-lost-requires-2 c κs =
-    let b = c .before .before .before .before in
-    let s = entry (b .before .before .before) in
+    let k = c .before .before .before .before .before in
+    let s = entry (k .before .before .before .before .before) in
     let p = s .pre .1 .1 in (
       s .pre .0,
       (
         record { depth = p .depth; wave = p .wave; right-most = omega arith; left-most = omega arith },
-        (record { depth = right-deep b; wave = c .before .before .reduced-wave2 .ensures; right-most = omega arith; left-most = omega arith }, right-le b),
+        (record { depth = right-flow k .depth; wave = right-flow k .wave; right-most = omega arith; left-most = omega arith }, right-le (k .before .before)),
       ),
     )
 
 returns : tie.Need-returns
 unfolding momentumSum leftDepth rightDepth
 returns c =
-    let b = c .before .before .before .before .before in
-    let s = entry (b .before .before .before) .args in
-    let e = c .before .before .exchange-of .ensures in
-    let hl = left-is (b .before .before .before) in
-    let hr = right-is b in
+    let k = c .before .before .before .before .before .before in
+    let s = entry (k .before .before .before .before .before) .args in
+    let g = entry (k .before .before .before .before .before) .pre in
+    let a = c .before .before .before .before .before .crossing-of .ensures in
+    let b = c .before .before .before .before .crossing-of2 .ensures in
+    let hl = left-is (k .before .before .before .before .before) in
+    let hr = right-is (k .before .before) in
     let turned = sym (sub-neg (s .r .right) (s .r .left)) in
     let water : ℕ → ℤ → ℕ = λ h u. waterFlux (s .t) (s .x) h u in
     let push : ℕ → ℤ → ℕ = λ h u. momentumFlux (s .t) (s .x) h u in
     let ul = subℕ (s .l .right) (s .l .left) in
     let crosses : Crosses (s .t) (s .x) (sideOf (s .l)) (sideOf (s .r)) _ _ _ _ _ = record {
-      rightward-is = e .0 ∙ ap (λ (h : ℕ). water h ul) hl;
-      leftward-is = e .1 .0 ∙ ap₂ water hr turned;
-      momentum-is = e .1 .1 ∙ ap₂ _+_ (ap (λ (h : ℕ). push h ul) hl) (ap₂ push hr turned);
+      rightward-is = a .0 ∙ ap (λ (h : ℕ). water h ul) hl;
+      leftward-is = b .0 ∙ ap₂ water hr turned;
+      momentum-is = ap₂ _+_ (a .1 ∙ ap (λ (h : ℕ). push h ul) hl) (b .1 ∙ ap₂ push hr turned);
       lost-left-is = c .before .thrust-lost .ensures ∙ ap (λ (h : ℕ). stillThrust (s .t) (s .x) (s .l .depth) - stillThrust (s .t) (s .x) h) hl;
       lost-right-is = c .thrust-lost2 .ensures ∙ ap (λ (h : ℕ). stillThrust (s .t) (s .x) (s .r .depth) - stillThrust (s .t) (s .x) h) hr;
     } in
-    (crosses, crossing-fits _ (entry (b .before .before .before) .pre .0) (entry (b .before .before .before) .pre .1 .0) (entry (b .before .before .before) .pre .1 .1) crosses)
+    (crosses, crossing-fits _ (g .0) (g .1 .0) (g .1 .1) crosses)
 
 pub crossing-between-spec : {M : Type 1} → statement M
 crossing-between-spec =
@@ -128,7 +140,9 @@ crossing-between-spec =
     reduced-depth-requires-2
     reduced-wave-requires
     reduced-wave-requires-2
-    exchange-of-requires
+    crossing-of-requires
+    crossing-of-requires-2
+    add-t11
     thrust-lost-requires
     thrust-lost-requires-2
     returns)
