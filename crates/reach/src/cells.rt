@@ -60,7 +60,7 @@ pub fn check_cell_length(x: u64) -> Check
     Check::Pass
 }
 
-fn cell_fits(z: i64, h: u64, q: i64, m: u64, b: u64) -> bool
+pub fn cell_fits(z: i64, h: u64, q: i64, m: u64, b: u64) -> bool
     ensures { λ r. ⌜ r ≡ cellFits z h q m b ⌝ }
 {
     if 100_000_000 < magnitude(z) {

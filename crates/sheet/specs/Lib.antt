@@ -1,0 +1,4 @@
+pub mod Bytes
+pub mod Header
+pub mod Ranges
+pub mod Opening

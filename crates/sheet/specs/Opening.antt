@@ -1,0 +1,84 @@
+-- Document 01, 'The sheet' (reading) and grounds 1 to 7 at opening.
+use mathlib.Core.Path.{_≡_}
+use mathlib.Core.Bool.{Bool}
+use mathlib.Core.List.{List, [], _∷_}
+use Prim.Native.Nat.{ℕ, _+_}
+use lib.Dec.{eqb}
+use lib.IntN.{ℤ, pos}
+use lib.ListN.{length, replicate}
+use Rattle.numbers.specs.Index.{allOf}
+use Rattle.reach.specs.Reach.{Reach, reachOf, noBoundary}
+use Rattle.reach.specs.Grounds.{Ground, ground, firstRefusal, cellLengthFits, boundariesFit, cellsFit}
+use Rattle.reach.specs.Outcome.{Outcome, outcome}
+use Rattle.reach.specs.declared.boundary.Boundary.{Boundary}
+use Rattle.reach.specs.declared.ledger.Totals.{Totals}
+use Rattle.reach.specs.declared.ledger.Ledger.{Ledger}
+use Rattle.sheet.specs.Bytes.{twos, columnAt}
+use Rattle.sheet.specs.Header.{countOf, cellLengthOf, bedsAt, depthsAt, dischargesAt, massesAt, endsOf, editionFits, sizeFits, spansOf, columnsClear}
+use Rattle.sheet.specs.declared.opening.Opened.{Opened}
+
+-- an empty book
+abbrev pub emptyTotals : Totals
+emptyTotals = record { «water_in» = 0; «water_out» = 0; «mass_in» = 0; «mass_out» = 0 }
+
+abbrev pub emptyLedger : Ledger
+emptyLedger = record { left = emptyTotals; right = emptyTotals }
+
+-- the record of a sheet: b = h, c = 0, an empty book
+unfoldable pub sheetRecord : List ℕ → Reach
+sheetRecord s = record {
+  bed = columnAt (twos 4) 4 s (bedsAt s) (countOf s);
+  depth = columnAt (λ v. v) 4 s (depthsAt s) (countOf s);
+  discharge = columnAt (twos 8) 8 s (dischargesAt s) (countOf s);
+  mass = columnAt (λ v. v) 8 s (massesAt s) (countOf s);
+  base = columnAt (λ v. v) 4 s (depthsAt s) (countOf s);
+  carried = replicate (countOf s + 1) (pos 0);
+  cellLength = cellLengthOf s;
+  ends = endsOf s;
+  ledger = emptyLedger;
+}
+
+-- columns as they are lent to an opening, which is given no X, no ends and no book: all of these are 0
+abbrev pub lent : List ℤ → List ℕ → List ℤ → List ℕ → List ℕ → List ℤ → Reach
+lent z h q m b c = reachOf z h q m b c 0 (noBoundary ∷ noBoundary ∷ []) emptyLedger
+
+-- 4, at opening: the bed column's length is n, and the other columns' lengths fit it
+unfoldable pub lentFit : (n bed depth discharge mass base carried : ℕ) → Bool
+lentFit n z h q m b c = allOf (eqb z n ∷ eqb h n ∷ eqb q n ∷ eqb m n ∷ eqb b n ∷ eqb c (n + 1) ∷ [])
+
+-- opening uses 1 to 7; the lengths are those of the lent columns
+abbrev pub openGrounds : List ℕ → (bed depth discharge mass base carried : ℕ) → List Ground
+openGrounds s z h q m b c =
+    let r = sheetRecord s in
+    ground 1 (editionFits s)
+    ∷ ground 2 (sizeFits s)
+    ∷ ground 3 (columnsClear (length s) (spansOf s))
+    ∷ ground 4 (lentFit (countOf s) z h q m b c)
+    ∷ ground 5 (cellLengthFits (cellLengthOf s))
+    ∷ ground 6 (boundariesFit (endsOf s))
+    ∷ ground 7 (cellsFit (r .bed) (r .depth) (r .discharge) (r .mass) (r .base))
+    ∷ []
+
+-- an opening that none of them stops leaves the sheet's record in the lent columns; a refused one leaves them as they came
+unfoldable pub opening : List ℕ → Reach → Outcome
+opening s l =
+    outcome
+    (firstRefusal (openGrounds s (length (l .bed)) (length (l .depth)) (length (l .discharge)) (length (l .mass)) (length (l .base)) (length (l .carried))))
+    l (sheetRecord s)
+
+-- the answer of a refused opening: its number, and 0 in the other fields
+abbrev pub unopenedBy : ℕ → Opened
+unopenedBy n = record { refusal = n; «cell_length» = 0; ends = noBoundary ∷ noBoundary ∷ []; ledger = emptyLedger }
+
+-- an opening came out as o says: every field of its answer, and every column
+pub record OpenCameTo (o : Outcome) (r : Opened) (bed : List ℤ) (depth : List ℕ) (discharge : List ℤ) (mass base : List ℕ) (carried : List ℤ) : Type 0 where
+  pub refusal-is : r .refusal ≡ o .refusal
+  pub length-is : r .«cell_length» ≡ o .reach .cellLength
+  pub ends-are : r .ends ≡ o .reach .ends
+  pub ledger-is : r .ledger ≡ o .reach .ledger
+  pub bed-is : bed ≡ o .reach .bed
+  pub depth-is : depth ≡ o .reach .depth
+  pub discharge-is : discharge ≡ o .reach .discharge
+  pub mass-is : mass ≡ o .reach .mass
+  pub base-is : base ≡ o .reach .base
+  pub carried-is : carried ≡ o .reach .carried

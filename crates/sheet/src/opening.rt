@@ -1,0 +1,228 @@
+// Opening a sheet: grounds 1 to 7 in checking order, all of them before the first write.
+ghost use mathlib.Core.Path.{_≡_};
+ghost use Prim.Native.Nat.{_+_, _*_, _≤_, _<_};
+ghost use lib.IntN.{pos};
+ghost use lib.ListN.{length, replicate};
+ghost use Rattle.numbers.specs.Index.{allBelow};
+ghost use Rattle.reach.specs.Grounds.{firstRefusal, numberOf, passOr};
+ghost use Rattle.sheet.specs.Bytes.{twos, columnAt};
+ghost use Rattle.reach.specs.Reach.{noBoundary};
+ghost use Rattle.sheet.specs.Ranges.{Within, cellAt};
+ghost use Rattle.sheet.specs.Opening.{lent, lentFit, openGrounds, opening, emptyLedger, unopenedBy, OpenCameTo};
+use super::bytes::read_column;
+use super::bytes::read_number;
+use super::bytes::read_signed;
+use super::bytes::read_signed_column;
+use super::header::HALF_4;
+use super::header::HALF_8;
+use super::header::Layout;
+use super::header::cell_length_of;
+use super::header::check_columns;
+use super::header::check_edition;
+use super::header::check_size;
+use super::header::count_of;
+use super::header::layout_of;
+use super::header::read_boundaries;
+use numbers::columns::clear_column;
+use numbers::columns::copy_column;
+use reach::boundary::Boundary;
+use reach::boundary::check_boundaries;
+use reach::cells::cell_fits;
+use reach::cells::check_cell_length;
+use reach::ledger::Ledger;
+use reach::ledger::Totals;
+use reach::refusal::Check;
+
+// What an opening hands back: 0 or the number of its refusal, X in mm, both boundaries, and an empty ledger. Of a refused opening all but the
+// number is 0.
+#[repr(C)]
+pub struct Opened {
+    pub refusal: u32,
+    pub cell_length: u64,
+    pub ends: [Boundary; 2],
+    pub ledger: Ledger,
+}
+
+// Ground 4, of the lengths of the lent columns
+fn check_lent(n: usize, z: usize, h: usize, q: usize, m: usize, b: usize, c: usize) -> Check
+    requires { ⌜ n ≤ 1_000_000 ⌝ }
+    ensures { λ r. ⌜ r ≡ passOr 4 (lentFit n z h q m b c) ⌝ }
+{
+    if z != n {
+        return Check::Refused(4);
+    }
+    if h != n {
+        return Check::Refused(4);
+    }
+    if q != n {
+        return Check::Refused(4);
+    }
+    if m != n {
+        return Check::Refused(4);
+    }
+    if b != n {
+        return Check::Refused(4);
+    }
+    if c != n + 1 {
+        return Check::Refused(4);
+    }
+    Check::Pass
+}
+
+// The values of cell i are in range; its base depth is its depth.
+fn cell_at(s: &[u8], l: Layout, n: usize, i: usize) -> bool
+    requires { ⌜ Within (now s) l n × (i < n) ⌝ }
+    ensures { λ r. ⌜ r ≡ cellAt (now (s .entry)) l i ⌝ }
+{
+    let h = read_number(s, l.depths + 4 * i, 4);
+    cell_fits(
+        read_signed(s, l.beds + 4 * i, 4, HALF_4),
+        h,
+        read_signed(s, l.discharges + 8 * i, 8, HALF_8),
+        read_number(s, l.masses + 8 * i, 8),
+        h,
+    )
+}
+
+// Ground 7
+fn check_values(s: &[u8], l: Layout, n: usize) -> Check
+    requires { ⌜ Within (now s) l n ⌝ }
+    ensures { λ r. ⌜ r ≡ passOr 7 (allBelow n (cellAt (now (s .entry)) l)) ⌝ }
+{
+    let mut i = 0;
+    while i < n {
+        if !cell_at(s, l, n, i) {
+            return Check::Refused(7);
+        }
+        i += 1;
+    }
+    Check::Pass
+}
+
+// Grounds 1 to 7, of a sheet and the lengths of the lent columns
+fn check_opening(s: &[u8], z: usize, h: usize, q: usize, m: usize, b: usize, c: usize) -> Check
+    ensures { λ r. ⌜ r ≡ firstRefusal (openGrounds (now (s .entry)) z h q m b c) ⌝ }
+{
+    let Check::Pass = check_edition(s) else {
+        return Check::Refused(1);
+    };
+    let Check::Pass = check_size(s) else {
+        return Check::Refused(2);
+    };
+    let Check::Pass = check_columns(s) else {
+        return Check::Refused(3);
+    };
+    let n = count_of(s);
+    let Check::Pass = check_lent(n, z, h, q, m, b, c) else {
+        return Check::Refused(4);
+    };
+    let Check::Pass = check_cell_length(cell_length_of(s)) else {
+        return Check::Refused(5);
+    };
+    let Check::Pass = check_boundaries(read_boundaries(s)) else {
+        return Check::Refused(6);
+    };
+    check_values(s, layout_of(s), n)
+}
+
+// The sheet's values, b = h, c = 0. Nothing refuses any more.
+fn fill(
+    s: &[u8],
+    l: Layout,
+    z: &mut [i64],
+    h: &mut [u64],
+    q: &mut [i64],
+    m: &mut [u64],
+    b: &mut [u64],
+    c: &mut [i64],
+)
+    requires { ⌜ Within (now s) l (length (now z)) ⌝ }
+    requires { ⌜ (length (now h) ≡ length (now z)) × ((length (now q) ≡ length (now z)) × ((length (now m) ≡ length (now z)) × (length (now b) ≡ length (now z)))) ⌝ }
+    ensures { λ _. ⌜ now (z .exit) ≡ columnAt (twos 4) 4 (now (s .entry)) (l .beds) (length (now (z .entry))) ⌝ }
+    ensures { λ _. ⌜ now (h .exit) ≡ columnAt (λ v. v) 4 (now (s .entry)) (l .depths) (length (now (z .entry))) ⌝ }
+    ensures { λ _. ⌜ now (q .exit) ≡ columnAt (twos 8) 8 (now (s .entry)) (l .discharges) (length (now (z .entry))) ⌝ }
+    ensures { λ _. ⌜ now (m .exit) ≡ columnAt (λ v. v) 8 (now (s .entry)) (l .masses) (length (now (z .entry))) ⌝ }
+    ensures { λ _. ⌜ now (b .exit) ≡ columnAt (λ v. v) 4 (now (s .entry)) (l .depths) (length (now (z .entry))) ⌝ }
+    ensures { λ _. ⌜ now (c .exit) ≡ replicate (length (now (c .entry))) (pos 0) ⌝ }
+{
+    read_signed_column(s, l.beds, 4, HALF_4, z);
+    read_column(s, l.depths, 4, h);
+    read_signed_column(s, l.discharges, 8, HALF_8, q);
+    read_column(s, l.masses, 8, m);
+    copy_column(b, h);
+    clear_column(c);
+}
+
+fn no_boundary() -> Boundary
+    ensures { λ r. ⌜ r ≡ noBoundary ⌝ }
+{
+    Boundary {
+        kind: 0,
+        reserved: 0,
+        depth: 0,
+        concentration: 0,
+        discharge: 0,
+    }
+}
+
+fn empty_ledger() -> Ledger
+    ensures { λ r. ⌜ r ≡ emptyLedger ⌝ }
+{
+    let none = Totals {
+        water_in: 0,
+        water_out: 0,
+        mass_in: 0,
+        mass_out: 0,
+    };
+    Ledger {
+        left: none,
+        right: none,
+    }
+}
+
+fn unopened(k: Check) -> Opened
+    ensures { λ r. ⌜ r ≡ unopenedBy (numberOf k) ⌝ }
+{
+    let none = no_boundary();
+    let ends = [none, none];
+    let ledger = empty_ledger();
+    let Check::Refused(n) = k else {
+        return Opened {
+            refusal: 0,
+            cell_length: 0,
+            ends,
+            ledger,
+        };
+    };
+    Opened {
+        refusal: n,
+        cell_length: 0,
+        ends,
+        ledger,
+    }
+}
+
+// Opens a sheet into lent columns.
+pub fn open_sheet(
+    s: &[u8],
+    z: &mut [i64],
+    h: &mut [u64],
+    q: &mut [i64],
+    m: &mut [u64],
+    b: &mut [u64],
+    c: &mut [i64],
+) -> Opened
+    ensures { λ r. ⌜ OpenCameTo (opening (now (s .entry)) (lent (now (z .entry)) (now (h .entry)) (now (q .entry)) (now (m .entry)) (now (b .entry)) (now (c .entry)))) r (now (z .exit)) (now (h .exit)) (now (q .exit)) (now (m .exit)) (now (b .exit)) (now (c .exit)) ⌝ }
+{
+    let checked = check_opening(s, z.len(), h.len(), q.len(), m.len(), b.len(), c.len());
+    let Check::Pass = checked else {
+        return unopened(checked);
+    };
+    fill(s, layout_of(s), z, h, q, m, b, c);
+    Opened {
+        refusal: 0,
+        cell_length: cell_length_of(s),
+        ends: read_boundaries(s),
+        ledger: empty_ledger(),
+    }
+}
