@@ -1,0 +1,98 @@
+-- Laws of a play: steps one after the other, and what each refusal stops. Assumes nothing.
+use mathlib.Core.Path.{_≡_, refl, sym, ap, _∙_}
+use mathlib.Core.Bool.{cond}
+use mathlib.Core.List.{List}
+use Prim.Native.Nat.{ℕ, zero, suc, _+_, _-_, _≤_, _<_}
+use native.Mathlib.Omega.{arith}
+use borrow.Author.Tests.{eq-eqb, ne-eqb, le-leb, lt-leb}
+use lib.IntN.{ℤ}
+use Rattle.reach.specs.Reach.{Reach, reachOf}
+use Rattle.reach.specs.Outcome.{Outcome}
+use Rattle.stepping.specs.Step.{stepped, step, StepCameTo}
+use Rattle.stepping.specs.declared.step.Stepped.{Stepped}
+use Rattle.stepping.proofs.StepLaws.{by-step}
+use Rattle.transport.specs.Calls.{transported, transport}
+use Rattle.transport.proofs.CallsLaws.{by-outcome}
+use Rattle.sheet.specs.Opening.{opening, OpenCameTo}
+use Rattle.sheet.specs.declared.opening.Opened.{Opened}
+use Rattle.play.specs.Play.{steps, countMost, stepsThenSettles, played}
+use Rattle.play.specs.Ranges.{PlayedTo}
+use Rattle.play.specs.declared.Ran.{Ran}
+
+-- a step changes neither the bed, the cell length nor the boundaries
+kept : (s : Reach) (t : ℕ) →
+    let r = step s t .reach in
+    reachOf (s .bed) (r .depth) (r .discharge) (r .mass) (r .base) (r .carried) (s .cellLength) (s .ends) (r .ledger) ≡ r
+unfolding stepped
+kept s t =
+    by-step s t
+    (λ o. let r = o .reach in
+    reachOf (s .bed) (r .depth) (r .discharge) (r .mass) (r .base) (r .carried) (s .cellLength) (s .ends) (r .ledger) ≡ r)
+    (λ n p. refl)
+    (λ k c d l. refl)
+
+-- the record that a step left in the columns
+pub left-by-step : (s : Reach) (t : ℕ) {r : Stepped} {h : List ℕ} {q : List ℤ} {m b : List ℕ} {c : List ℤ} → StepCameTo s t r h q m b c
+    → reachOf (s .bed) h q m b c (s .cellLength) (s .ends) (r .ledger) ≡ step s t .reach
+left-by-step s t k = rw (k .depth-is, k .discharge-is, k .mass-is, k .base-is, k .carried-is, k .ledger-is) (kept s t)
+
+-- one step of those that are left
+pub steps-on : (count i t : ℕ) (s n : Reach) → i < count → step s t .refusal ≡ 0 → n ≡ step s t .reach → steps (count - i) t s ≡ steps (count - (i + 1)) t n
+unfolding steps
+steps-on count i t s n l e f =
+    let k : count - i ≡ suc (count - (i + 1)) = omega arith in
+    rw (k, eq-eqb _ _ e, f) refl
+
+pub steps-stop : (count i t : ℕ) (s : Reach) → i < count → (step s t .refusal ≡ 0 → ⊥) → steps (count - i) t s ≡ step s t
+unfolding steps
+steps-stop count i t s l e =
+    let k : count - i ≡ suc (count - (i + 1)) = omega arith in
+    rw (k, ne-eqb _ _ e) refl
+
+pub steps-done : (count i t : ℕ) (s : Reach) → i ≤ count → count ≤ i → steps (count - i) t s ≡ record { refusal = 0; reach = s }
+unfolding steps
+steps-done count i t s l m = let k : count - i ≡ 0 = omega arith in rw k refl
+
+-- the record that an opening left in the columns
+pub left-by-opening : {o : Outcome} {r : Opened} {z : List ℤ} {h : List ℕ} {q : List ℤ} {m b : List ℕ} {c : List ℤ} → OpenCameTo o r z h q m b c
+    → reachOf z h q m b c (r .«cell_length») (r .ends) (r .ledger) ≡ o .reach
+left-by-opening {o} k =
+    rw (k .bed-is, k .depth-is, k .discharge-is, k .mass-is, k .base-is, k .carried-is, k .length-is, k .ends-are, k .ledger-is) refl
+
+-- a refused call ends the play
+pub halted : {o : Outcome} {r : Ran} {h : List ℕ} {q : List ℤ} {m : List ℕ} → r .refusal ≡ o .refusal → (o .refusal ≡ 0 → ⊥) → PlayedTo o r h q m
+halted e n = record {
+  refusal-is = e;
+  depth-is = λ z. absurd (n z);
+  discharge-is = λ z. absurd (n z);
+  mass-is = λ z. absurd (n z);
+  ledger-is = λ z. absurd (n z);
+}
+
+module _ (s : List ℕ) (l : Reach) (count t : ℕ) where
+  pub not-opened : (opening s l .refusal ≡ 0 → ⊥) → played s l count t ≡ opening s l
+  unfolding played
+  not-opened n = rw (ne-eqb _ _ n) refl
+
+  module _ (e : opening s l .refusal ≡ 0) where
+    pub too-many : countMost < count → played s l count t ≡ record { refusal = 10; reach = opening s l .reach }
+    unfolding played stepsThenSettles
+    too-many m = rw (eq-eqb _ _ e, lt-leb _ _ m) refl
+
+    module _ (f : count ≤ countMost) where
+      pub not-stepped : (steps count t (opening s l .reach) .refusal ≡ 0 → ⊥) → played s l count t ≡ steps count t (opening s l .reach)
+      unfolding played stepsThenSettles
+      not-stepped n = rw (eq-eqb _ _ e, le-leb _ _ f, ne-eqb _ _ n) refl
+
+      pub settled : steps count t (opening s l .reach) .refusal ≡ 0 → played s l count t ≡ transport (steps count t (opening s l .reach) .reach)
+      unfolding played stepsThenSettles
+      settled g = rw (eq-eqb _ _ e, le-leb _ _ f, eq-eqb _ _ g) refl
+
+-- a settling changes neither depth nor discharge
+pub transport-depth : (s : Reach) → transport s .reach .depth ≡ s .depth
+unfolding transport transported
+transport-depth s = by-outcome s (s .ends) (λ o. o .reach .depth ≡ s .depth) (λ n p. refl) (λ k g f. refl)
+
+pub transport-discharge : (s : Reach) → transport s .reach .discharge ≡ s .discharge
+unfolding transport transported
+transport-discharge s = by-outcome s (s .ends) (λ o. o .reach .discharge ≡ s .discharge) (λ n p. refl) (λ k g f. refl)

@@ -1,0 +1,31 @@
+-- Document 01, 'Figures to meet': the program opens, steps and settles.
+use mathlib.Core.Bool.{cond}
+use mathlib.Core.List.{List}
+use Prim.Native.Nat.{ℕ, zero, suc}
+use lib.Dec.{leb, eqb}
+use Rattle.reach.specs.Reach.{Reach}
+use Rattle.reach.specs.Grounds.{passOr}
+use Rattle.reach.specs.Outcome.{Outcome, outcome}
+use Rattle.transport.specs.Calls.{transport}
+use Rattle.stepping.specs.Step.{step}
+use Rattle.sheet.specs.Opening.{opening}
+
+-- what a refusal stops, and what is done after an accepted call
+abbrev pub andThen : Outcome → (Reach → Outcome) → Outcome
+andThen o f = cond (eqb (o .refusal) 0) (f (o .reach)) o
+
+-- k steps of t, one after the other
+unfoldable pub steps : (k t : ℕ) → Reach → Outcome
+steps zero t s = record { refusal = 0; reach = s }
+steps (suc k) t s = andThen (step s t) (λ r. steps k t r)
+
+-- a count over 1,000 is 10; with a count of 0, t is not looked at
+abbrev pub countMost : ℕ
+countMost = 1_000
+
+unfoldable pub stepsThenSettles : (count t : ℕ) → Reach → Outcome
+stepsThenSettles count t s = andThen (outcome (passOr 10 (leb count countMost)) s s) (λ r. andThen (steps count t r) transport)
+
+-- opens into the lent columns l, steps, settles
+unfoldable pub played : (s : List ℕ) → Reach → (count t : ℕ) → Outcome
+played s l count t = andThen (opening s l) (stepsThenSettles count t)

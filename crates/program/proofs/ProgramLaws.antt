@@ -1,0 +1,58 @@
+-- Laws of the program: its text by what it met. Assumes nothing.
+use mathlib.Core.Path.{_≡_, refl, sym, ap, _∙_}
+use mathlib.Core.List.{List, _∷_}
+use Prim.Native.Nat.{ℕ, zero, suc, _+_, _-_, _/_, _≤_, _<_}
+use native.Mathlib.Nat.{le-of-suc-le-suc}
+use native.Mathlib.Omega.{arith}
+use borrow.Author.Tests.{eq-eqb, ne-eqb, lt-ltb, le-ltb}
+use lib.IntN.{ℤ, pos}
+use lib.ListN.{length, take, replicate}
+use Rattle.reach.specs.Reach.{Reach}
+use Rattle.reach.specs.Outcome.{Outcome}
+use Rattle.reach.specs.declared.ledger.Ledger.{Ledger}
+use Rattle.sheet.specs.Bytes.{numberAt}
+use Rattle.sheet.specs.Opening.{lent}
+use Rattle.play.specs.Play.{played}
+use Rattle.play.specs.Ranges.{PlayedTo}
+use Rattle.play.specs.declared.Ran.{Ran}
+use Rattle.report.specs.Report.{reportText, refusedText, outcomeText}
+use Rattle.program.specs.Program.{blank, programText}
+
+-- the text of an outcome
+pub refused-text : {o : Outcome} {r : Ran} {h : List ℕ} {q : List ℤ} {m : List ℕ} → PlayedTo o r h q m → (r .refusal ≡ 0 → ⊥) → refusedText (r .refusal) ≡ outcomeText o
+unfolding outcomeText
+refused-text {o} k n = rw (ne-eqb (o .refusal) 0 (λ z. n (k .refusal-is ∙ z)), ← k .refusal-is) refl
+
+pub report-text : {o : Outcome} {r : Ran} {h : List ℕ} {q : List ℤ} {m : List ℕ} → PlayedTo o r h q m → r .refusal ≡ 0 → reportText h q m (r .ledger) ≡ outcomeText o
+unfolding outcomeText
+report-text {o} k e =
+    let z = sym (k .refusal-is) ∙ e in
+    rw (eq-eqb (o .refusal) 0 z, k .depth-is z, k .discharge-is z, k .mass-is z, k .ledger-is z) refl
+
+-- the columns that the program lends
+take-replicate : {A : Type 0} (x : A) (m n : ℕ) → n ≤ m → take n (replicate m x) ≡ replicate n x
+take-replicate x m zero l = refl
+take-replicate x zero (suc n) l = absurd (omega arith)
+take-replicate x (suc m) (suc n) l = ap (λ r. x ∷ r) (take-replicate x m n (le-of-suc-le-suc l))
+
+pub blank-is : (n : ℕ) → n ≤ 512
+    → lent (take n (replicate 512 (pos 0))) (take n (replicate 512 0)) (take n (replicate 512 (pos 0))) (take n (replicate 512 0)) (take n (replicate 512 0)) (take (n + 1) (replicate 513 (pos 0)))
+    ≡ blank n
+unfolding blank
+blank-is n l =
+    rw (take-replicate (pos 0) 512 n l, take-replicate {A = ℕ} 0 512 n l, take-replicate (pos 0) 513 (n + 1) (omega arith)) refl
+
+-- the program's text by the length of its input
+pub too-short : (input : List ℕ) → length input < 8 → refusedText 1 ≡ programText input
+unfolding programText
+too-short input l = rw (lt-ltb _ _ l) refl
+
+pub too-long : (input : List ℕ) → 8 ≤ length input → 12_376 < length input → refusedText 2 ≡ programText input
+unfolding programText
+too-long input k l = rw (le-ltb _ _ k, lt-ltb _ _ l) refl
+
+pub program-is : (input : List ℕ) (n count t : ℕ) (l : Reach) → 8 ≤ length input → length input ≤ 12_376 → n ≡ (length input - 8 - 80) / 24 → l ≡ blank n
+    → count ≡ numberAt 4 input (length input - 8) → t ≡ numberAt 4 input (length input - 8 + 4)
+    → outcomeText (played (take (length input - 8) input) l count t) ≡ programText input
+unfolding programText
+program-is input n count t l a b e f g h = rw (le-ltb _ _ a, le-ltb _ _ b, f, e, g, h) refl

@@ -1,0 +1,94 @@
+// The program of document 01 as a function on bytes: its input, and the text that it prints.
+ghost use mathlib.Core.Path.{_≡_};
+ghost use Prim.Native.Nat.{_-_, _/_, _≤_};
+ghost use lib.ListN.{length};
+ghost use Rattle.sheet.specs.Opening.{lent};
+ghost use Rattle.play.specs.Play.{played};
+ghost use Rattle.report.specs.Report.{outcomeText};
+ghost use Rattle.text.specs.Text.{Put};
+ghost use Rattle.program.specs.Program.{programText};
+use play::play;
+use reach::cells::CELLS_MOST;
+use report::put_refused;
+use report::put_report;
+use sheet::bytes::read_number;
+use sheet::header::HEADER_SIZE;
+
+// Bytes of the step count and t behind the sheet, of a cell in a sheet, and of the longest input
+const TRAILER: usize = 8;
+
+const CELL_SIZE: usize = 24;
+
+const INPUT_MOST: usize = 12_376;
+
+// Plays a sheet on lent columns, and puts what came of it at the start of `out`.
+fn answer(
+    s: &[u8],
+    count: u64,
+    t: u64,
+    z: &mut [i64],
+    h: &mut [u64],
+    q: &mut [i64],
+    m: &mut [u64],
+    b: &mut [u64],
+    c: &mut [i64],
+    out: &mut [u8],
+) -> usize
+    requires { ⌜ (length (now h) ≤ 512) × ((length (now q) ≡ length (now h)) × ((length (now m) ≡ length (now h)) × (65_536 ≤ length (now out)))) ⌝ }
+    ensures { λ r. ⌜ r ≡ length (outcomeText (played (now (s .entry)) (lent (now (z .entry)) (now (h .entry)) (now (q .entry)) (now (m .entry)) (now (b .entry)) (now (c .entry))) count t)) ⌝ }
+    ensures { λ _. ⌜ Put (now (out .entry)) 0 (outcomeText (played (now (s .entry)) (lent (now (z .entry)) (now (h .entry)) (now (q .entry)) (now (m .entry)) (now (b .entry)) (now (c .entry))) count t)) (now (out .exit)) ⌝ }
+{
+    let r = play(s, z, h, q, m, b, c, count, t);
+    let ledger = r.ledger;
+    if r.refusal != 0 {
+        return put_refused(out, r.refusal);
+    }
+    put_report(out, h, q, m, ledger)
+}
+
+// How many cells a sheet of k bytes holds
+fn cells_in(k: usize) -> usize
+    requires { ⌜ k ≤ 12_368 ⌝ }
+    ensures { λ r. ⌜ (r ≡ (k - 80) / 24) × (r ≤ 512) ⌝ }
+{
+    if k < HEADER_SIZE {
+        return 0;
+    }
+    (k - HEADER_SIZE) / CELL_SIZE
+}
+
+// The text for this input, at the start of `out`; answers its length.
+pub fn program(input: &[u8], out: &mut [u8]) -> usize
+    requires { ⌜ 65_536 ≤ length (now out) ⌝ }
+    ensures { λ r. ⌜ r ≡ length (programText (now (input .entry))) ⌝ }
+    ensures { λ _. ⌜ Put (now (out .entry)) 0 (programText (now (input .entry))) (now (out .exit)) ⌝ }
+{
+    if input.len() < TRAILER {
+        return put_refused(out, 1);
+    }
+    if INPUT_MOST < input.len() {
+        return put_refused(out, 2);
+    }
+    let k = input.len() - TRAILER;
+    let count = read_number(input, k, 4);
+    let t = read_number(input, k + 4, 4);
+    let n = cells_in(k);
+    let mut z = [0i64; CELLS_MOST];
+    let mut h = [0u64; CELLS_MOST];
+    let mut q = [0i64; CELLS_MOST];
+    let mut m = [0u64; CELLS_MOST];
+    let mut b = [0u64; CELLS_MOST];
+    let mut c = [0i64; CELLS_MOST + 1];
+    answer(
+        &input[..k],
+        count,
+        t,
+        &mut z[..n],
+        &mut h[..n],
+        &mut q[..n],
+        &mut m[..n],
+        &mut b[..n],
+        &mut c[..n + 1],
+        out,
+    )
+}
