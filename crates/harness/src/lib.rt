@@ -2,6 +2,7 @@
 ghost use mathlib.Core.Path.{_≡_};
 ghost use Prim.Native.Nat.{_*_, _≤_};
 ghost use lib.IntN.{natAbs};
+ghost use lib.ListN.{length};
 ghost use Rattle.flux.specs.Limits.{depthMost, velocityMost, bedMost};
 ghost use Rattle.flux.specs.Wave.{waveSpeed};
 ghost use Rattle.flux.specs.Velocity.{velocity};
@@ -12,6 +13,9 @@ ghost use Rattle.reach.specs.Reach.{reachOf};
 ghost use Rattle.transport.specs.Calls.{setBoundaries, transport as transportOf, CameTo};
 ghost use Rattle.stepping.specs.GreatestStep.{greatest};
 ghost use Rattle.stepping.specs.Step.{StepCameTo};
+ghost use Rattle.sheet.specs.Opening.{lent, opening, OpenCameTo};
+ghost use Rattle.text.specs.Text.{Put};
+ghost use Rattle.program.specs.Program.{programText};
 use flux::crossing::crossing_of;
 use flux::crossing::still_thrust;
 use flux::interface::reduced_depth;
@@ -20,8 +24,11 @@ use flux::wave::wave_speed;
 use numbers::signed::joined;
 use numbers::signed::left_part;
 use numbers::signed::right_part;
+use program::program;
 use reach::boundary::Boundary;
 use reach::ledger::Ledger;
+use sheet::opening::Opened;
+use sheet::opening::open_sheet;
 use stepping::Greatest;
 use stepping::step::Stepped;
 use transport::Answer;
@@ -152,4 +159,29 @@ pub extern "C" fn harness_step(
 {
     let ends = held.ends;
     stepping::step::step(z, h, q, m, b, c, x, ends, ledger, t)
+}
+
+#[no_mangle]
+pub extern "C" fn harness_open(
+    s: &[u8],
+    z: &mut [i64],
+    h: &mut [u64],
+    q: &mut [i64],
+    m: &mut [u64],
+    b: &mut [u64],
+    c: &mut [i64],
+) -> Opened
+    ensures { λ r. ⌜ OpenCameTo (opening (now (s .entry)) (lent (now (z .entry)) (now (h .entry)) (now (q .entry)) (now (m .entry)) (now (b .entry)) (now (c .entry)))) r (now (z .exit)) (now (h .exit)) (now (q .exit)) (now (m .exit)) (now (b .exit)) (now (c .exit)) ⌝ }
+{
+    open_sheet(s, z, h, q, m, b, c)
+}
+
+// The program's text at the start of `out`, and its length
+#[no_mangle]
+pub extern "C" fn harness_program(input: &[u8], out: &mut [u8]) -> usize
+    requires { ⌜ 65_536 ≤ length (now out) ⌝ }
+    ensures { λ r. ⌜ r ≡ length (programText (now (input .entry))) ⌝ }
+    ensures { λ _. ⌜ Put (now (out .entry)) 0 (programText (now (input .entry))) (now (out .exit)) ⌝ }
+{
+    program(input, out)
 }

@@ -35,7 +35,7 @@ fn answer(
     out: &mut [u8],
 ) -> usize
     requires { ⌜ (length (now h) ≤ 512) × ((length (now q) ≡ length (now h)) × ((length (now m) ≡ length (now h)) × (65_536 ≤ length (now out)))) ⌝ }
-    ensures { λ r. ⌜ r ≡ length (outcomeText (played (now (s .entry)) (lent (now (z .entry)) (now (h .entry)) (now (q .entry)) (now (m .entry)) (now (b .entry)) (now (c .entry))) count t)) ⌝ }
+    ensures { λ r. ⌜ (r ≡ length (outcomeText (played (now (s .entry)) (lent (now (z .entry)) (now (h .entry)) (now (q .entry)) (now (m .entry)) (now (b .entry)) (now (c .entry))) count t))) × (r ≤ 65_536) ⌝ }
     ensures { λ _. ⌜ Put (now (out .entry)) 0 (outcomeText (played (now (s .entry)) (lent (now (z .entry)) (now (h .entry)) (now (q .entry)) (now (m .entry)) (now (b .entry)) (now (c .entry))) count t)) (now (out .exit)) ⌝ }
 {
     let r = play(s, z, h, q, m, b, c, count, t);
@@ -60,7 +60,7 @@ fn cells_in(k: usize) -> usize
 // The text for this input, at the start of `out`; answers its length.
 pub fn program(input: &[u8], out: &mut [u8]) -> usize
     requires { ⌜ 65_536 ≤ length (now out) ⌝ }
-    ensures { λ r. ⌜ r ≡ length (programText (now (input .entry))) ⌝ }
+    ensures { λ r. ⌜ (r ≡ length (programText (now (input .entry)))) × (r ≤ 65_536) ⌝ }
     ensures { λ _. ⌜ Put (now (out .entry)) 0 (programText (now (input .entry))) (now (out .exit)) ⌝ }
 {
     if input.len() < TRAILER {

@@ -76,7 +76,7 @@ fn put_columns(out: &mut [u8], h: &[u64], q: &[i64], m: &[u64]) -> usize
 // `book` and the eight totals
 fn put_book(out: &mut [u8], at: usize, k: Ledger) -> usize
     requires { ⌜ at + 173 ≤ length (now out) ⌝ }
-    ensures { λ r. ⌜ r ≡ at + length (bookText k) ⌝ }
+    ensures { λ r. ⌜ (r ≡ at + length (bookText k)) × (r ≤ at + 173) ⌝ }
     ensures { λ _. ⌜ Put (now (out .entry)) at (bookText k) (now (out .exit)) ⌝ }
 {
     let word = put_word(out, at, b"book");
@@ -90,7 +90,7 @@ fn put_book(out: &mut [u8], at: usize, k: Ledger) -> usize
 pub fn put_report(out: &mut [u8], h: &[u64], q: &[i64], m: &[u64], k: Ledger) -> usize
     requires { ⌜ (length (now q) ≡ length (now h)) × (length (now m) ≡ length (now h)) ⌝ }
     requires { ⌜ 96 * length (now h) + 256 ≤ length (now out) ⌝ }
-    ensures { λ r. ⌜ r ≡ length (reportText (now (h .entry)) (now (q .entry)) (now (m .entry)) k) ⌝ }
+    ensures { λ r. ⌜ (r ≡ length (reportText (now (h .entry)) (now (q .entry)) (now (m .entry)) k)) × (r ≤ 96 * length (now (h .entry)) + 256) ⌝ }
     ensures { λ _. ⌜ Put (now (out .entry)) 0 (reportText (now (h .entry)) (now (q .entry)) (now (m .entry)) k) (now (out .exit)) ⌝ }
 {
     let next = put_columns(out, h, q, m);
@@ -99,7 +99,7 @@ pub fn put_report(out: &mut [u8], h: &[u64], q: &[i64], m: &[u64], k: Ledger) ->
 
 pub fn put_refused(out: &mut [u8], n: u32) -> usize
     requires { ⌜ 64 ≤ length (now out) ⌝ }
-    ensures { λ r. ⌜ r ≡ length (refusedText n) ⌝ }
+    ensures { λ r. ⌜ (r ≡ length (refusedText n)) × (r ≤ 64) ⌝ }
     ensures { λ _. ⌜ Put (now (out .entry)) 0 (refusedText n) (now (out .exit)) ⌝ }
 {
     let word = put_word(out, 0, b"refused ");

@@ -2,8 +2,8 @@
 
 use crate::calls;
 use reference::random::{damage_record, Random, Record};
-use reference::record::{Answer, Book, End, MOST_TOTAL};
-use reference::{GreatestAnswer, StepAnswer};
+use reference::record::{Answer, Book, Columns, End, DEEPEST, MOST_TOTAL};
+use reference::{GreatestAnswer, OpenAnswer, StepAnswer};
 
 /// A call on a record with its free arguments.
 #[derive(Clone, Copy, Debug)]
@@ -110,6 +110,91 @@ pub fn same(call: Call, record: &mut Record) -> Outcome {
         assert_eq!(*record, before, "a refused {call:?} changed the record");
     }
     answer
+}
+
+/// Opens on both implementations: the answers and every column are the same, and a refused opening gives nothing but its number
+/// and leaves the columns as they came. Gives the opened record, or that number.
+pub fn same_opening(sheet: &[u8], lent: &Columns) -> Result<Record, u32> {
+    let (mut columns, mut theirs) = (lent.clone(), lent.clone());
+    let answer = calls::open(sheet, &mut columns);
+    let expected = reference::open(sheet, &mut theirs);
+    assert_eq!(answer, expected, "of {sheet:?}");
+    assert_eq!(columns, theirs, "of {sheet:?}");
+    let OpenAnswer {
+        refusal,
+        x,
+        ends,
+        book,
+    } = answer;
+    let opened = Record {
+        columns,
+        x,
+        ends,
+        book,
+    };
+    if refusal == 0 {
+        return Ok(opened);
+    }
+    let untouched = Record {
+        columns: lent.clone(),
+        ..Record::default()
+    };
+    assert_eq!(opened, untouched, "refused on {refusal}: {sheet:?}");
+    Err(refusal)
+}
+
+pub const WALL: End = End {
+    kind: 0,
+    depth: 0,
+    concentration: 0,
+    zero: 0,
+    discharge: 0,
+};
+
+/// A settled record with an empty book; a cell is its bed level, depth, discharge and nutrient.
+pub fn settled(x: u32, ends: [End; 2], cells: &[(i64, u64, i64, u64)]) -> Record {
+    let mut columns = Columns::of_cells(cells.len());
+    for (i, &(z, h, q, m)) in cells.iter().enumerate() {
+        columns.bed[i] = z;
+        columns.depth[i] = h;
+        columns.discharge[i] = q;
+        columns.nutrient[i] = m;
+        columns.base[i] = h;
+    }
+    Record {
+        columns,
+        x,
+        ends,
+        book: Book::default(),
+    }
+}
+
+/// Document 01: two cells between walls, flat bed, X 1,000, depths 1,000,000 and 100,000 at rest.
+pub fn two_cells() -> Record {
+    let cells = [(0, 1_000_000, 0, 3_000_000), (0, 100_000, 0, 0)];
+    settled(1_000, [WALL; 2], &cells)
+}
+
+/// Raises most cells to or nearly to the greatest depth, the base depth with it; the carried water stays.
+pub fn brim(r: &mut Random, record: &mut Record) {
+    let c = &mut record.columns;
+    for (depth, base) in c.depth.iter_mut().zip(&mut c.base) {
+        let room = DEEPEST - (*depth).max(*base);
+        let left = r.pick(&[0, 1, 3_000, room]).min(room);
+        *depth += room - left;
+        *base += room - left;
+    }
+}
+
+/// The greatest step of a sound record.
+pub fn greatest(record: &Record) -> u64 {
+    let Record {
+        columns,
+        x,
+        ends,
+        book,
+    } = record;
+    reference::greatest_step(columns, *x, *ends, *book).t.into()
 }
 
 /// Every total at its limit: whatever a call adds is ground 13.

@@ -1,8 +1,8 @@
-//! The calls on a record, in the types of the second implementation. They require nothing.
+//! The calls on a record, opening and the program, in the types of the second implementation. They require nothing.
 
 use reference::random::Record;
 use reference::record::{Answer, Book, Columns, End, Totals};
-use reference::{GreatestAnswer, StepAnswer};
+use reference::{GreatestAnswer, OpenAnswer, StepAnswer};
 
 #[repr(C)]
 #[derive(Clone, Copy)]
@@ -58,6 +58,14 @@ struct RawStepped {
     ends: [Boundary; 2],
     ledger: Ledger,
     settled: bool,
+}
+
+#[repr(C)]
+struct RawOpened {
+    refusal: u32,
+    cell_length: u64,
+    ends: [Boundary; 2],
+    ledger: Ledger,
 }
 
 // A slice goes to C as a pointer and a length, bed level, depth, discharge, mass, base depth and carried water in this order.
@@ -132,6 +140,23 @@ extern "C" {
         ledger: Ledger,
         t: u64,
     ) -> RawStepped;
+    fn harness_open(
+        s: *const u8,
+        sn: usize,
+        z: *mut i64,
+        zn: usize,
+        h: *mut u64,
+        hn: usize,
+        q: *mut i64,
+        qn: usize,
+        m: *mut u64,
+        mn: usize,
+        b: *mut u64,
+        bn: usize,
+        c: *mut i64,
+        cn: usize,
+    ) -> RawOpened;
+    fn harness_program(input: *const u8, inputn: usize, out: *mut u8, outn: usize) -> usize;
 }
 
 fn boundary(e: End) -> Boundary {
@@ -254,4 +279,54 @@ pub fn step(r: &mut Record, t: u64) -> StepAnswer {
         book: book(s.ledger),
         settled: s.settled,
     }
+}
+
+/// Fills the lent columns from a sheet.
+pub fn open(sheet: &[u8], columns: &mut Columns) -> OpenAnswer {
+    let Columns {
+        bed,
+        depth,
+        discharge,
+        nutrient,
+        base,
+        carried,
+    } = columns;
+    let o = unsafe {
+        harness_open(
+            sheet.as_ptr(),
+            sheet.len(),
+            bed.as_mut_ptr(),
+            bed.len(),
+            depth.as_mut_ptr(),
+            depth.len(),
+            discharge.as_mut_ptr(),
+            discharge.len(),
+            nutrient.as_mut_ptr(),
+            nutrient.len(),
+            base.as_mut_ptr(),
+            base.len(),
+            carried.as_mut_ptr(),
+            carried.len(),
+        )
+    };
+    OpenAnswer {
+        refusal: o.refusal,
+        x: o.cell_length.try_into().expect("a cell length"),
+        ends: o.ends.map(end),
+        book: book(o.ledger),
+    }
+}
+
+/// Room for the text of any input, and a byte that no text holds.
+const TEXT_ROOM: usize = 65_536;
+const NO_TEXT: u8 = 0xA5;
+
+/// The text that the program prints for this standard input; the bytes behind it keep their values.
+pub fn program(input: &[u8]) -> Vec<u8> {
+    let mut out = vec![NO_TEXT; TEXT_ROOM];
+    let length =
+        unsafe { harness_program(input.as_ptr(), input.len(), out.as_mut_ptr(), out.len()) };
+    let behind = out.split_off(length);
+    assert!(behind.iter().all(|&byte| byte == NO_TEXT), "{length} bytes");
+    out
 }

@@ -3,6 +3,7 @@
 
 pub mod both;
 pub mod calls;
+pub mod sheets;
 
 pub const DEEPEST: u64 = 4_000_000;
 pub const FASTEST: i64 = 8_000;

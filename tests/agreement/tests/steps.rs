@@ -1,41 +1,17 @@
 //! The water step against the second implementation, alone and in long lists of calls: refusal, ends, book, whether it settled,
 //! and every column entry by entry. Then the figures of document 01, still water, and the balance of the book.
 
-use agreement::both::{broken, fill_book, same, Call, Outcome};
+use agreement::both::{
+    brim, broken, fill_book, greatest, same, settled, two_cells, Call, Outcome, WALL,
+};
 use agreement::calls;
 use reference::flux::speed;
 use reference::random::{
     book_from, cell_count, damage_end, end, kinds, record, record_of, Random, Record,
 };
 use reference::record::{DEEPEST, FASTEST, MOST_CELLS, MOST_TOTAL, OPEN};
-use reference::{Book, Columns, End, StepAnswer};
+use reference::{Book, End, StepAnswer};
 use std::collections::{BTreeMap, BTreeSet};
-
-const WALL: End = End {
-    kind: 0,
-    depth: 0,
-    concentration: 0,
-    zero: 0,
-    discharge: 0,
-};
-
-/// A settled record with an empty book; a cell is its bed level, depth, discharge and nutrient.
-fn settled(x: u32, ends: [End; 2], cells: &[(i64, u64, i64, u64)]) -> Record {
-    let mut columns = Columns::of_cells(cells.len());
-    for (i, &(z, h, q, m)) in cells.iter().enumerate() {
-        columns.bed[i] = z;
-        columns.depth[i] = h;
-        columns.discharge[i] = q;
-        columns.nutrient[i] = m;
-        columns.base[i] = h;
-    }
-    Record {
-        columns,
-        x,
-        ends,
-        book: Book::default(),
-    }
-}
 
 /// Any number of cells, the greatest one time in forty.
 fn cells(r: &mut Random) -> usize {
@@ -44,17 +20,6 @@ fn cells(r: &mut Random) -> usize {
     } else {
         cell_count(r)
     }
-}
-
-/// The greatest step of a sound record.
-fn greatest(record: &Record) -> u64 {
-    let Record {
-        columns,
-        x,
-        ends,
-        book,
-    } = record;
-    reference::greatest_step(columns, *x, *ends, *book).t.into()
 }
 
 /// What the single steps came upon.
@@ -144,17 +109,6 @@ fn times(r: &mut Random, record: &Record) -> [u64; 11] {
         cut,
         u64::MAX,
     ]
-}
-
-/// Raises most cells to or nearly to the greatest depth, the base depth with it; the carried water stays.
-fn brim(r: &mut Random, record: &mut Record) {
-    let c = &mut record.columns;
-    for (depth, base) in c.depth.iter_mut().zip(&mut c.base) {
-        let room = DEEPEST - (*depth).max(*base);
-        let left = r.pick(&[0, 1, 3_000, room]).min(room);
-        *depth += room - left;
-        *base += room - left;
-    }
 }
 
 /// The eight totals, left, then right.
@@ -371,8 +325,7 @@ fn lists_of_calls_agree() {
 /// Document 01: two cells, walls, X 1,000, depths 1,000,000 and 100,000 at rest, one step of 100, then a settling.
 #[test]
 fn two_cell_run() {
-    let cells = [(0, 1_000_000, 0, 3_000_000), (0, 100_000, 0, 0)];
-    let mut record = settled(1_000, [WALL; 2], &cells);
+    let mut record = two_cells();
     let stepped = calls::step(&mut record, 100);
     assert_eq!((stepped.refusal, stepped.settled), (0, false));
     assert_eq!(stepped.book, Book::default());

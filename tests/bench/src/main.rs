@@ -7,7 +7,9 @@ mod fast;
 
 use agreement::both::broken;
 use reference::flux;
-use reference::random::{any_record, end_of_kind, record_of, Random, Record};
+use reference::random::{
+    any_record, end_of_kind, record_of, sheet_of, Random, Record, COLUMN_ORDERS,
+};
 use reference::record::{FED, OPEN};
 use reference::{Book, Columns};
 use std::hint::black_box;
@@ -202,6 +204,27 @@ fn compare_steps(r: &mut Random) {
     }
 }
 
+/// The whole program on the longest run that it takes: 1,000 steps on 512 cells, opened, settled and printed.
+fn compare_program(r: &mut Random) {
+    let mut now = flow(r, 512, 1_000);
+    now.ends = [FED, OPEN].map(|kind| end_of_kind(r, kind));
+    let mut input = sheet_of(&now, COLUMN_ORDERS[0]);
+    let t = reference::greatest_step(&now.columns, now.x, now.ends, now.book).t / 2;
+    input.extend(1_000u32.to_le_bytes());
+    input.extend(t.to_le_bytes());
+    assert_eq!(
+        reference::program(&input).as_bytes(),
+        agreement::calls::program(&input)
+    );
+    compare(
+        "program, 1,000 steps on 512 cells",
+        &[()],
+        |()| agreement::calls::program(&input),
+        |()| reference::program(&input),
+        1.2,
+    );
+}
+
 /// The step written for speed gives what the second implementation gives, refusals included.
 fn fast_step_agrees(r: &mut Random) {
     for _ in 0..2_000 {
@@ -245,4 +268,5 @@ fn main() {
     compare_settling(&mut r, 512);
     compare_greatest(&mut r, 512);
     compare_steps(&mut r);
+    compare_program(&mut r);
 }

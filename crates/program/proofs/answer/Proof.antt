@@ -38,7 +38,8 @@ same-length-7 c = c .before .before .put-refused .kept .0
 returns : tie.Need-returns
 returns c =
     let e = refused-text (c .before .before .before .before .before .before .before .before .before .before .before .before .before .before .before .before .play .ensures) (c .before .before .before .before .if1 .taken) in
-    rw (← e) (c .before .before .put-refused .ensures)
+    let f = c .before .before .put-refused .ensures in
+    rw (← e) ((f .0 .0, omega (arith, f .0 .1)), f .1)
 
 put-report-requires : tie.Need-put-report-requires
 put-report-requires c κs =
@@ -73,7 +74,10 @@ same-length-14 c = c .before .before .put-report .kept .0
 returns-2 : tie.Need-returns-2
 returns-2 c =
     let e = report-text (c .before .before .before .before .before .before .before .before .before .before .before .before .before .before .before .before .before .before .before .play .ensures) (c .before .before .before .before .before .before .before .if1 .left) in
-    rw (← e) (c .before .before .put-report .ensures)
+    let f = c .before .before .put-report .ensures in
+    let n = c .before .before .before .before .before .before .before .before .before .before .before .before .before .before .before .before .before .before .before .play .kept .1 .1 .0 in
+    let l = c .before .before .before .before .before .before .before .before .before .before .before .before .before .before .before .before .before .before .before .before .before .before .before .before .before .before .before .before .before .before .before .pre .0 in
+    rw (← e) ((f .0 .0, omega (arith, f .0 .1, n, l)), f .1)
 
 pub answer-spec : {M : Type 1} → statement M
 answer-spec =

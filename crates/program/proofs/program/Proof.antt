@@ -22,7 +22,9 @@ same-length : tie.Need-same-length
 same-length c = search needs
 
 returns : tie.Need-returns
-returns c = rw (← too-short (now (c .before .before .before .before .before .before .before .args .input)) (c .before .before .before .before .if1 .taken)) (c .before .before .put-refused .ensures)
+returns c =
+    let f = c .before .before .put-refused .ensures in
+    rw (← too-short (now (c .before .before .before .before .before .before .before .args .input)) (c .before .before .before .before .if1 .taken)) ((f .0 .0, omega (arith, f .0 .1)), f .1)
 
 put-refused-requires-2 : tie.Need-put-refused-requires-2
 put-refused-requires-2 c κs = let p = c .before .before .before .before .before .pre in omega (arith, p)
@@ -31,7 +33,9 @@ same-length-2 : tie.Need-same-length-2
 same-length-2 c = search needs
 
 returns-2 : tie.Need-returns-2
-returns-2 c = rw (← too-long (now (c .before .before .before .before .before .before .before .before .args .input)) (c .before .before .before .before .before .if1 .left) (c .before .before .before .before .if2 .taken)) (c .before .before .put-refused2 .ensures)
+returns-2 c =
+    let f = c .before .before .put-refused2 .ensures in
+    rw (← too-long (now (c .before .before .before .before .before .before .before .before .args .input)) (c .before .before .before .before .before .if1 .left) (c .before .before .before .before .if2 .taken)) ((f .0 .0, omega (arith, f .0 .1)), f .1)
 
 sub-k : tie.Need-sub-k
 sub-k c = search needs

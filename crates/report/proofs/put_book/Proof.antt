@@ -1,4 +1,5 @@
 -- `report::put_book` meets its contract. Assumes nothing.
+use native.Mathlib.Omega.{arith}
 use borrow.Author.Needs.{needs}
 use Rattle.report.specs.Report.{bookText, bookWord}
 use Rattle.report.proofs.ReportLaws.{laid, laid-then}
@@ -31,7 +32,7 @@ returns c =
     let t2 = c .before .before .before .before .before .before .put-totals2 .ensures in
     let e = c .before .before .put-byte .ensures in
     let l = laid-then (laid-then (laid-then (laid (w .0) (w .1)) (laid (t1 .0 .0) (t1 .1))) (laid (t2 .0 .0) (t2 .1))) (laid (e .0) (e .1)) in
-    (l .next-is, l .put)
+    ((l .next-is, omega (arith, w .0, t1 .0 .1, t2 .0 .1, e .0)), l .put)
 
 pub put-book-spec : {M : Type 1} → statement M
 put-book-spec =

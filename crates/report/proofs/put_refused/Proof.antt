@@ -28,7 +28,7 @@ returns c =
     let d = c .before .before .before .before .before .before .put-decimal .ensures in
     let e = c .before .before .put-byte .ensures in
     let l = laid-then (laid-then (laid (w .0) (w .1)) (laid (d .0 .0) (d .1))) (laid (e .0) (e .1)) in
-    (omega (arith, l .next-is), l .put)
+    ((omega (arith, l .next-is), omega (arith, w .0, d .0 .1, e .0)), l .put)
 
 pub put-refused-spec : {M : Type 1} → statement M
 put-refused-spec =

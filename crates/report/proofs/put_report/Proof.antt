@@ -20,8 +20,8 @@ unfolding reportText
 returns c =
     let s = c .before .before .before .before .before .before .put-columns .ensures in
     let b = c .before .before .put-book .ensures in
-    let l = laid-then (laid (omega (arith, s .0 .0)) (s .1)) (laid (b .0) (b .1)) in
-    (omega (arith, l .next-is), l .put)
+    let l = laid-then (laid (omega (arith, s .0 .0)) (s .1)) (laid (b .0 .0) (b .1)) in
+    ((omega (arith, l .next-is), omega (arith, s .0 .1, b .0 .1)), l .put)
 
 pub put-report-spec : {M : Type 1} → statement M
 put-report-spec = tie.close (tie.spec put-columns-requires put-book-requires same-length returns)
