@@ -180,7 +180,7 @@ pub extern "C" fn harness_open(
 #[no_mangle]
 pub extern "C" fn harness_program(input: &[u8], out: &mut [u8]) -> usize
     requires { ⌜ 65_536 ≤ length (now out) ⌝ }
-    ensures { λ r. ⌜ r ≡ length (programText (now (input .entry))) ⌝ }
+    ensures { λ r. ⌜ (r ≡ length (programText (now (input .entry)))) × (r ≤ 65_536) ⌝ }
     ensures { λ _. ⌜ Put (now (out .entry)) 0 (programText (now (input .entry))) (now (out .exit)) ⌝ }
 {
     program(input, out)

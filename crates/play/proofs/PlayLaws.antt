@@ -8,10 +8,13 @@ use borrow.Author.Tests.{eq-eqb, ne-eqb, le-leb, lt-leb}
 use lib.IntN.{ℤ}
 use Rattle.reach.specs.Reach.{Reach, reachOf}
 use Rattle.reach.specs.Outcome.{Outcome}
+use Rattle.reach.specs.declared.boundary.Boundary.{Boundary}
+use Rattle.reach.specs.declared.ledger.Ledger.{Ledger}
 use Rattle.stepping.specs.Step.{stepped, step, StepCameTo}
 use Rattle.stepping.specs.declared.step.Stepped.{Stepped}
 use Rattle.stepping.proofs.StepLaws.{by-step}
-use Rattle.transport.specs.Calls.{transported, transport}
+use Rattle.transport.specs.Calls.{transported, transport, CameTo}
+use Rattle.transport.specs.declared.Answer.{Answer}
 use Rattle.transport.proofs.CallsLaws.{by-outcome}
 use Rattle.sheet.specs.Opening.{opening, OpenCameTo}
 use Rattle.sheet.specs.declared.opening.Opened.{Opened}
@@ -59,14 +62,18 @@ pub left-by-opening : {o : Outcome} {r : Opened} {z : List ℤ} {h : List ℕ} {
 left-by-opening {o} k =
     rw (k .bed-is, k .depth-is, k .discharge-is, k .mass-is, k .base-is, k .carried-is, k .length-is, k .ends-are, k .ledger-is) refl
 
--- a refused call ends the play
-pub halted : {o : Outcome} {r : Ran} {h : List ℕ} {q : List ℤ} {m : List ℕ} → r .refusal ≡ o .refusal → (o .refusal ≡ 0 → ⊥) → PlayedTo o r h q m
-halted e n = record {
+-- what a play left, by the record in its columns
+pub left : {o : Outcome} {r : Ran} (z : List ℤ) (h : List ℕ) (q : List ℤ) (m b : List ℕ) (c : List ℤ) (X : ℕ) (es : List Boundary) {k : Ledger}
+    → r .refusal ≡ o .refusal → r .ledger ≡ k → reachOf z h q m b c X es k ≡ o .reach → PlayedTo o r z h q m b c
+left z h q m b c X es e f g = record {
   refusal-is = e;
-  depth-is = λ z. absurd (n z);
-  discharge-is = λ z. absurd (n z);
-  mass-is = λ z. absurd (n z);
-  ledger-is = λ z. absurd (n z);
+  bed-is = ap (λ (x : Reach). x .bed) g;
+  depth-is = ap (λ (x : Reach). x .depth) g;
+  discharge-is = ap (λ (x : Reach). x .discharge) g;
+  mass-is = ap (λ (x : Reach). x .mass) g;
+  base-is = ap (λ (x : Reach). x .base) g;
+  carried-is = ap (λ (x : Reach). x .carried) g;
+  ledger-is = f ∙ ap (λ (x : Reach). x .ledger) g;
 }
 
 module _ (s : List ℕ) (l : Reach) (count t : ℕ) where
@@ -88,11 +95,19 @@ module _ (s : List ℕ) (l : Reach) (count t : ℕ) where
       unfolding played stepsThenSettles
       settled g = rw (eq-eqb _ _ e, le-leb _ _ f, eq-eqb _ _ g) refl
 
--- a settling changes neither depth nor discharge
-pub transport-depth : (s : Reach) → transport s .reach .depth ≡ s .depth
+-- a settling changes neither the bed, the depth, the discharge, the cell length nor the boundaries
+moved : (s : Reach) →
+    let r = transport s .reach in
+    reachOf (s .bed) (s .depth) (s .discharge) (r .mass) (r .base) (r .carried) (s .cellLength) (s .ends) (r .ledger) ≡ r
 unfolding transport transported
-transport-depth s = by-outcome s (s .ends) (λ o. o .reach .depth ≡ s .depth) (λ n p. refl) (λ k g f. refl)
+moved s =
+    by-outcome s (s .ends)
+    (λ o. let r = o .reach in
+    reachOf (s .bed) (s .depth) (s .discharge) (r .mass) (r .base) (r .carried) (s .cellLength) (s .ends) (r .ledger) ≡ r)
+    (λ n p. refl)
+    (λ k g f. refl)
 
-pub transport-discharge : (s : Reach) → transport s .reach .discharge ≡ s .discharge
-unfolding transport transported
-transport-discharge s = by-outcome s (s .ends) (λ o. o .reach .discharge ≡ s .discharge) (λ n p. refl) (λ k g f. refl)
+-- the record that a settling left in the columns
+pub left-by-transport : (s : Reach) {r : Answer} {m b : List ℕ} {c : List ℤ} → CameTo (transport s) r m b c
+    → reachOf (s .bed) (s .depth) (s .discharge) m b c (s .cellLength) (s .ends) (r .ledger) ≡ transport s .reach
+left-by-transport s k = rw (k .mass-is, k .base-is, k .carried-is, k .ledger-is) (moved s)

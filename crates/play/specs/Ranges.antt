@@ -8,15 +8,18 @@ use Rattle.reach.specs.Outcome.{Outcome}
 use Rattle.reach.specs.declared.boundary.Boundary.{Boundary}
 use Rattle.play.specs.declared.Ran.{Ran}
 
--- a run came to o: its refusal, and where there is none the record
+-- a run came to o: its refusal, and the record that its calls left
 pub record RanTo (o : Outcome) (r : Ran) (z : List ℤ) (h : List ℕ) (q : List ℤ) (m b : List ℕ) (c : List ℤ) (X : ℕ) (es : List Boundary) : Type 0 where
   pub refusal-is : r .refusal ≡ o .refusal
-  pub reach-is : o .refusal ≡ 0 → reachOf z h q m b c X es (r .ledger) ≡ o .reach
+  pub reach-is : reachOf z h q m b c X es (r .ledger) ≡ o .reach
 
--- of a whole play: its refusal, and where there is none what is printed of the record
-pub record PlayedTo (o : Outcome) (r : Ran) (h : List ℕ) (q : List ℤ) (m : List ℕ) : Type 0 where
+-- a whole play came to o: its refusal, and every column and the ledger as its calls left them
+pub record PlayedTo (o : Outcome) (r : Ran) (z : List ℤ) (h : List ℕ) (q : List ℤ) (m b : List ℕ) (c : List ℤ) : Type 0 where
   pub refusal-is : r .refusal ≡ o .refusal
-  pub depth-is : o .refusal ≡ 0 → h ≡ o .reach .depth
-  pub discharge-is : o .refusal ≡ 0 → q ≡ o .reach .discharge
-  pub mass-is : o .refusal ≡ 0 → m ≡ o .reach .mass
-  pub ledger-is : o .refusal ≡ 0 → r .ledger ≡ o .reach .ledger
+  pub bed-is : z ≡ o .reach .bed
+  pub depth-is : h ≡ o .reach .depth
+  pub discharge-is : q ≡ o .reach .discharge
+  pub mass-is : m ≡ o .reach .mass
+  pub base-is : b ≡ o .reach .base
+  pub carried-is : c ≡ o .reach .carried
+  pub ledger-is : r .ledger ≡ o .reach .ledger

@@ -68,7 +68,7 @@ pub fn play(
     count: u64,
     t: u64,
 ) -> Ran
-    ensures { λ r. ⌜ PlayedTo (played (now (s .entry)) (lent (now (z .entry)) (now (h .entry)) (now (q .entry)) (now (m .entry)) (now (b .entry)) (now (c .entry))) count t) r (now (h .exit)) (now (q .exit)) (now (m .exit)) ⌝ }
+    ensures { λ r. ⌜ PlayedTo (played (now (s .entry)) (lent (now (z .entry)) (now (h .entry)) (now (q .entry)) (now (m .entry)) (now (b .entry)) (now (c .entry))) count t) r (now (z .exit)) (now (h .exit)) (now (q .exit)) (now (m .exit)) (now (b .exit)) (now (c .exit)) ⌝ }
 {
     let o = open_sheet(s, z, h, q, m, b, c);
     let opened = o.ledger;

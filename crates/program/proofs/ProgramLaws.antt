@@ -19,15 +19,15 @@ use Rattle.report.specs.Report.{reportText, refusedText, outcomeText}
 use Rattle.program.specs.Program.{blank, programText}
 
 -- the text of an outcome
-pub refused-text : {o : Outcome} {r : Ran} {h : List ℕ} {q : List ℤ} {m : List ℕ} → PlayedTo o r h q m → (r .refusal ≡ 0 → ⊥) → refusedText (r .refusal) ≡ outcomeText o
+pub refused-text : {o : Outcome} {r : Ran} {z : List ℤ} {h : List ℕ} {q : List ℤ} {m b : List ℕ} {c : List ℤ} → PlayedTo o r z h q m b c → (r .refusal ≡ 0 → ⊥) → refusedText (r .refusal) ≡ outcomeText o
 unfolding outcomeText
 refused-text {o} k n = rw (ne-eqb (o .refusal) 0 (λ z. n (k .refusal-is ∙ z)), ← k .refusal-is) refl
 
-pub report-text : {o : Outcome} {r : Ran} {h : List ℕ} {q : List ℤ} {m : List ℕ} → PlayedTo o r h q m → r .refusal ≡ 0 → reportText h q m (r .ledger) ≡ outcomeText o
+pub report-text : {o : Outcome} {r : Ran} {z : List ℤ} {h : List ℕ} {q : List ℤ} {m b : List ℕ} {c : List ℤ} → PlayedTo o r z h q m b c → r .refusal ≡ 0 → reportText h q m (r .ledger) ≡ outcomeText o
 unfolding outcomeText
 report-text {o} k e =
     let z = sym (k .refusal-is) ∙ e in
-    rw (eq-eqb (o .refusal) 0 z, k .depth-is z, k .discharge-is z, k .mass-is z, k .ledger-is z) refl
+    rw (eq-eqb (o .refusal) 0 z, k .depth-is, k .discharge-is, k .mass-is, k .ledger-is) refl
 
 -- the columns that the program lends
 take-replicate : {A : Type 0} (x : A) (m n : ℕ) → n ≤ m → take n (replicate m x) ≡ replicate n x

@@ -2,6 +2,8 @@
 ghost use mathlib.Core.Path.{_≡_};
 ghost use Prim.Native.Nat.{_-_, _/_, _≤_};
 ghost use lib.ListN.{length};
+ghost use Rattle.reach.specs.Limits.{cellsMost};
+ghost use Rattle.sheet.specs.Header.{headerSize};
 ghost use Rattle.sheet.specs.Opening.{lent};
 ghost use Rattle.play.specs.Play.{played};
 ghost use Rattle.report.specs.Report.{outcomeText};
@@ -19,7 +21,7 @@ const TRAILER: usize = 8;
 
 const CELL_SIZE: usize = 24;
 
-const INPUT_MOST: usize = 12_376;
+pub const INPUT_MOST: usize = 12_376;
 
 // Plays a sheet on lent columns, and puts what came of it at the start of `out`.
 fn answer(
@@ -49,7 +51,7 @@ fn answer(
 // How many cells a sheet of k bytes holds
 fn cells_in(k: usize) -> usize
     requires { ⌜ k ≤ 12_368 ⌝ }
-    ensures { λ r. ⌜ (r ≡ (k - 80) / 24) × (r ≤ 512) ⌝ }
+    ensures { λ r. ⌜ (r ≡ (k - headerSize) / 24) × (r ≤ cellsMost) ⌝ }
 {
     if k < HEADER_SIZE {
         return 0;

@@ -11,7 +11,7 @@ use Rattle.transport.specs.Calls.{transport}
 use Rattle.sheet.specs.Opening.{lent, opening}
 use Rattle.play.specs.Play.{steps, played}
 use Rattle.play.specs.Ranges.{PlayedTo}
-use Rattle.play.proofs.PlayLaws.{left-by-opening, halted, not-opened, too-many, not-stepped, settled, transport-depth, transport-discharge}
+use Rattle.play.proofs.PlayLaws.{left-by-opening, left-by-transport, left, not-opened, too-many, not-stepped, settled}
 use Rattle.play.proofs.play.Statement.{statement}
 use Rattle.play.proofs.play.Tie as tie
 
@@ -72,7 +72,8 @@ returns c =
     let w = c .before .before .before .before .before .before .before .before .before .before .before .before .before .before in
     let s = entry w in
     let n : opened w .refusal ≡ 0 → ⊥ = λ z. c .before .if1 .taken (w .open-sheet .ensures .refusal-is ∙ z) in
-    rw (not-opened (sheet s) (columns s) (s .args .count) (s .args .t) n) (halted (c .came-to .ensures .0 ∙ w .open-sheet .ensures .refusal-is) n)
+    rw (not-opened (sheet s) (columns s) (s .args .count) (s .args .t) n)
+    (left _ _ _ _ _ _ _ _ (c .came-to .ensures .0 ∙ w .open-sheet .ensures .refusal-is) (c .came-to .ensures .1) (left-by-opening (w .open-sheet .ensures)))
 
 came-to-requires-2 : tie.Need-came-to-requires-2
 came-to-requires-2 c κs = search needs
@@ -99,7 +100,8 @@ returns-2 : tie.Need-returns-2
 returns-2 c =
     let w = c .before .before .before .before .before .before .before .before .before .before .before .before .before .before .before in
     let s = entry w in
-    rw (too-many (sheet s) (columns s) (s .args .count) (s .args .t) (accepted (c .before .before)) (c .before .if2 .taken)) (halted (c .came-to2 .ensures .0) (λ z. absurd (omega (arith, z))))
+    rw (too-many (sheet s) (columns s) (s .args .count) (s .args .t) (accepted (c .before .before)) (c .before .if2 .taken))
+    (left _ _ _ _ _ _ _ _ (c .came-to2 .ensures .0) (c .came-to2 .ensures .1) (left-by-opening (w .open-sheet .ensures)))
 
 run-steps-requires : tie.Need-run-steps-requires
 run-steps-requires c κs = search needs
@@ -132,7 +134,8 @@ returns-3 c =
     let s = entry w in
     let e = k .run-steps .ensures .refusal-is ∙ ap (λ (o : Outcome). o .refusal) (from-opening k) in
     let n : stepped k .refusal ≡ 0 → ⊥ = λ z. c .before .if3 .taken (e ∙ z) in
-    rw (not-stepped (sheet s) (columns s) (s .args .count) (s .args .t) (accepted (c .before .before .before .before .before .before .before .before .before .before .before .before .before .before .before .before .before .before .before .before)) (c .before .before .before .before .before .before .before .before .before .before .before .before .before .before .before .before .before .before .before .if2 .left) n) (halted (c .came-to3 .ensures .0 ∙ e) n)
+    rw (not-stepped (sheet s) (columns s) (s .args .count) (s .args .t) (accepted (c .before .before .before .before .before .before .before .before .before .before .before .before .before .before .before .before .before .before .before .before)) (c .before .before .before .before .before .before .before .before .before .before .before .before .before .before .before .before .before .before .before .if2 .left) n)
+    (left _ _ _ _ _ _ _ _ (c .came-to3 .ensures .0 ∙ e) (c .came-to3 .ensures .1) (k .run-steps .ensures .reach-is ∙ ap (λ (o : Outcome). o .reach) (from-opening k)))
 
 transport-requires : tie.Need-transport-requires
 transport-requires c κs = search needs
@@ -165,16 +168,10 @@ returns-4 c =
     let s = entry w in
     let e = k .run-steps .ensures .refusal-is ∙ ap (λ (o : Outcome). o .refusal) (from-opening k) in
     let z : stepped k .refusal ≡ 0 = sym e ∙ c .before .before .before .before .before .before .before .before .before .before .before .before .before .if3 .left in
-    let r = k .run-steps .ensures .reach-is (ap (λ (o : Outcome). o .refusal) (from-opening k) ∙ z) ∙ ap (λ (o : Outcome). o .reach) (from-opening k) in
-    let a = rw r at (c .before .before .before .before .before .before .transport .ensures) in
-    rw (settled (sheet s) (columns s) (s .args .count) (s .args .t) (accepted (c .before .before .before .before .before .before .before .before .before .before .before .before .before .before .before .before .before .before .before .before .before .before .before .before .before .before .before .before .before .before .before .before)) (c .before .before .before .before .before .before .before .before .before .before .before .before .before .before .before .before .before .before .before .before .before .before .before .before .before .before .before .before .before .before .before .if2 .left) z)
-    (record {
-      refusal-is = c .came-to4 .ensures .0 ∙ a .refusal-is;
-      depth-is = λ y. ap (λ (x : Reach). x .depth) r ∙ sym (transport-depth (stepped k .reach));
-      discharge-is = λ y. ap (λ (x : Reach). x .discharge) r ∙ sym (transport-discharge (stepped k .reach));
-      mass-is = λ y. a .mass-is;
-      ledger-is = λ y. c .came-to4 .ensures .1 ∙ a .ledger-is;
-    })
+    let r = k .run-steps .ensures .reach-is ∙ ap (λ (o : Outcome). o .reach) (from-opening k) in
+    let a = c .before .before .before .before .before .before .transport .ensures in
+    let o = settled (sheet s) (columns s) (s .args .count) (s .args .t) (accepted (c .before .before .before .before .before .before .before .before .before .before .before .before .before .before .before .before .before .before .before .before .before .before .before .before .before .before .before .before .before .before .before .before)) (c .before .before .before .before .before .before .before .before .before .before .before .before .before .before .before .before .before .before .before .before .before .before .before .before .before .before .before .before .before .before .before .if2 .left) z ∙ ap transport (sym r) in
+    rw o (left _ _ _ _ _ _ _ _ (c .came-to4 .ensures .0 ∙ a .refusal-is) (c .came-to4 .ensures .1) (left-by-transport _ a))
 
 pub play-spec : {M : Type 1} → statement M
 play-spec =

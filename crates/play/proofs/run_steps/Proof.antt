@@ -68,7 +68,7 @@ returns c =
     let o = k .loop .inv .1 ∙ steps-stop (start k .args .count) (k .loop .i) t s (c .before .before .before .before .before .before .before .before .before .before .before .before .before .before .before .before .before .loop-test .taken) n in
     record {
       refusal-is = e ∙ ap (λ (o : Outcome). o .refusal) (sym o);
-      reach-is = λ z. absurd (n (ap (λ (o : Outcome). o .refusal) (sym o) ∙ z));
+      reach-is = left-by-step s t (c .before .before .before .before .before .before .before .before .before .before .before .step .ensures) ∙ ap (λ (o : Outcome). o .reach) (sym o);
     }
 
 add-i : tie.Need-add-i Inv-loop μ-loop
@@ -115,7 +115,7 @@ returns-2 c =
     let o = k .loop .inv .1 ∙ steps-done (start k .args .count) (k .loop .i) (start k .args .t) (reach k) (k .loop .inv .0) (c .loop-test .left) in
     record {
       refusal-is = ap (λ (o : Outcome). o .refusal) (sym o);
-      reach-is = λ z. ap (λ (o : Outcome). o .reach) (sym o);
+      reach-is = ap (λ (o : Outcome). o .reach) (sym o);
     }
 
 pub run-steps-spec : {M : Type 1} → statement M
