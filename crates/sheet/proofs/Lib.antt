@@ -1,3 +1,4 @@
 pub mod BytesLaws
 pub mod HeaderLaws
 pub mod OpeningLaws
+mod Says

@@ -1,3 +1,4 @@
 pub mod GreatestLaws
 pub mod StepLaws
 pub mod StepCallLaws
+mod Says

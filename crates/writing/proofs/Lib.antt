@@ -1,0 +1,4 @@
+pub mod BytesBack
+pub mod RoundTripLaws
+pub mod WritingLaws
+mod Says

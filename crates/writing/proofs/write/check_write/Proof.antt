@@ -1,0 +1,81 @@
+-- `writing::write::check_write` meets its contract. Assumes nothing.
+use mathlib.Core.Path.{_≡_, sym, _∙_}
+use denote.Ref.{now}
+use borrow.Author.Needs.{needs}
+use Rattle.reach.specs.Reach.{Reach, reachOf}
+use Rattle.reach.specs.Grounds.{firstRefusal, recordGrounds}
+use Rattle.reach.specs.declared.refusal.Check.the-variants.{Pass}
+use Rattle.reach.proofs.GroundsLaws.{passed, refused-by}
+use Rattle.reach.proofs.Sound.{sound}
+use Rattle.writing.proofs.WritingLaws.{stopped-before, stopped-14, room-left}
+use Rattle.writing.proofs.write.check_write.Statement.{statement}
+use Rattle.writing.proofs.write.check_write.Tie as tie
+
+abbrev start : tie.After-check-record → tie.Start
+start c = c .before .before .before .before
+
+abbrev reach : tie.Start → Reach
+reach s =
+    reachOf (now (s .args .z)) (now (s .args .h)) (now (s .args .q)) (now (s .args .m)) (now (s .args .b)) (now (s .args .c)) (s .args .x) (s .args .ends) (s .args .ledger)
+
+checked : (c : tie.After-enum-told) → let s = reach (start (c .before .before)) in firstRefusal (recordGrounds s (s .ends)) ≡ Pass
+checked c = sym (c .before .before .check-record .ensures) ∙ c .enum-told .given .1
+
+check-record-requires : tie.Need-check-record-requires
+check-record-requires c κs = search needs
+
+enum-told : tie.Need-enum-told
+enum-told c = search needs
+
+enum-told-2 : tie.Need-enum-told-2
+enum-told-2 c = search needs
+
+returns : tie.Need-returns
+returns c =
+    let k = c .before .before in
+    let s = start k in
+    let t = c .enum-told2 .given in
+    t .1 ∙ sym (stopped-before (reach s) (s .args .room) (t .0 .0) (sym (k .check-record .ensures) ∙ t .1))
+
+check-settled-requires : tie.Need-check-settled-requires
+check-settled-requires c κs = search needs
+
+enum-told-3 : tie.Need-enum-told-3
+enum-told-3 c = search needs
+
+enum-told-4 : tie.Need-enum-told-4
+enum-told-4 c = search needs
+
+returns-2 : tie.Need-returns-2
+returns-2 c =
+    let e = c .before .before .before in
+    let s = start (e .before .before) in
+    sym (stopped-14 (reach s) (s .args .room) (checked e) (refused-by 14 _ _ _ (c .before .before .check-settled .ensures) (c .enum-told4 .given .1)))
+
+check-room-requires : tie.Need-check-room-requires
+check-room-requires c κs =
+    let e = c .before .before .before in
+    let s = reach (start (e .before .before)) in
+    sound s (s .ends) (checked e) .few
+
+returns-3 : tie.Need-returns-3
+returns-3 c =
+    let t = c .before in
+    let e = t .before .before .before in
+    let s = start (e .before .before) in
+    c .check-room .ensures ∙ sym (room-left (reach s) (s .args .room) (checked e) (passed 14 _ _ (t .before .before .check-settled .ensures) (t .enum-told3 .given .1)))
+
+pub check-write-spec : {M : Type 1} → statement M
+check-write-spec =
+    tie.close
+    (tie.spec
+    check-record-requires
+    enum-told
+    enum-told-2
+    returns
+    check-settled-requires
+    enum-told-3
+    enum-told-4
+    returns-2
+    check-room-requires
+    returns-3)
