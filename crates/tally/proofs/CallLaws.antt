@@ -1,0 +1,123 @@
+-- What each call's contract leaves in the columns, ends and ledger is the record that `next` says.
+use mathlib.Core.Path.{_≡_, refl, sym, ap, _∙_}
+use mathlib.Core.Bool.{Bool, true, false, cond}
+use mathlib.Core.List.{List, [], _∷_}
+use Prim.Native.Nat.{ℕ, _<_}
+use native.Mathlib.Omega.{arith}
+use borrow.Author.Tests.{eq-eqb, ne-eqb}
+use lib.Dec.{eqb}
+use lib.IntN.{ℤ}
+use lib.ListN.{length}
+use Rattle.reach.specs.Reach.{Reach, reachOf}
+use Rattle.reach.specs.Grounds.{firstRefusal, recordGrounds}
+use Rattle.reach.specs.Outcome.{Outcome, outcome}
+use Rattle.reach.specs.declared.boundary.Boundary.{Boundary}
+use Rattle.reach.specs.declared.refusal.Check.{Check}
+use Rattle.reach.specs.declared.refusal.Check.the-variants.{Pass, Refused}
+use Rattle.reach.proofs.GroundsLaws.{numbered, refused-number}
+use Rattle.transport.specs.Calls.{transported, transport, setBoundaries, CameTo}
+use Rattle.transport.specs.declared.Answer.{Answer}
+use Rattle.transport.proofs.CallsLaws.{by-outcome}
+use Rattle.stepping.specs.GreatestStep.{greatest, greatestBy}
+use Rattle.stepping.specs.Step.{step, stepped, StepCameTo}
+use Rattle.stepping.specs.declared.Greatest.{Greatest}
+use Rattle.stepping.specs.declared.step.Stepped.{Stepped}
+use Rattle.stepping.proofs.StepLaws.{by-step}
+use Rattle.sheet.specs.Opening.{opening, openGrounds, sheetRecord, lent, OpenCameTo}
+use Rattle.sheet.specs.declared.opening.Opened.{Opened}
+use Rattle.writing.specs.Writing.{WriteCameTo}
+use Rattle.writing.specs.declared.write.Written.{Written}
+use Rattle.tally.specs.Call.{next, stepBy, settle, setEnds, askGreatest, writeInto, reopen, goesOn}
+
+-- a step leaves the bed and X, a transport the depths and discharges too
+kept-by-step : (s : Reach) (t : ℕ) →
+    let r = step s t .reach in
+    reachOf (s .bed) (r .depth) (r .discharge) (r .mass) (r .base) (r .carried) (s .cellLength) (r .ends) (r .ledger) ≡ r
+unfolding stepped
+kept-by-step s t =
+    by-step s t
+    (λ o. let r = o .reach in
+    reachOf (s .bed) (r .depth) (r .discharge) (r .mass) (r .base) (r .carried) (s .cellLength) (r .ends) (r .ledger) ≡ r)
+    (λ n p. refl)
+    (λ k c d l. refl)
+
+pub step-next : (s : Reach) (t : ℕ) {r : Stepped} {h : List ℕ} {q : List ℤ} {m b : List ℕ} {c : List ℤ} → StepCameTo s t r h q m b c
+    → reachOf (s .bed) h q m b c (s .cellLength) (r .ends) (r .ledger) ≡ next s (stepBy t)
+step-next s t k = rw (k .depth-is, k .discharge-is, k .mass-is, k .base-is, k .carried-is, k .ends-are, k .ledger-is) (kept-by-step s t)
+
+kept-by-setting : (s : Reach) (es : List Boundary) →
+    let r = setBoundaries s es .reach in
+    reachOf (s .bed) (s .depth) (s .discharge) (r .mass) (r .base) (r .carried) (s .cellLength) (r .ends) (r .ledger) ≡ r
+unfolding transported
+kept-by-setting s es =
+    by-outcome s es
+    (λ o. let r = o .reach in
+    reachOf (s .bed) (s .depth) (s .discharge) (r .mass) (r .base) (r .carried) (s .cellLength) (r .ends) (r .ledger) ≡ r)
+    (λ n p. refl)
+    (λ k g f. refl)
+
+pub setting-next : (s : Reach) (es : List Boundary) {r : Answer} {m b : List ℕ} {c : List ℤ} → CameTo (setBoundaries s es) r m b c
+    → reachOf (s .bed) (s .depth) (s .discharge) m b c (s .cellLength) (r .ends) (r .ledger) ≡ next s (setEnds es)
+setting-next s es k = rw (k .mass-is, k .base-is, k .carried-is, k .ends-are, k .ledger-is) (kept-by-setting s es)
+
+pub settle-next : (s : Reach) {r : Answer} {m b : List ℕ} {c : List ℤ} → CameTo (transport s) r m b c
+    → reachOf (s .bed) (s .depth) (s .discharge) m b c (s .cellLength) (r .ends) (r .ledger) ≡ next s settle
+unfolding transport
+settle-next s k = setting-next s (s .ends) k
+
+-- a greatest-step call and a write hand ends and ledger back as they came
+greatest-keeps : (s : Reach) (k : Check) → reachOf (s .bed) (s .depth) (s .discharge) (s .mass) (s .base) (s .carried) (s .cellLength) (greatestBy k s .ends) (greatestBy k s .ledger) ≡ s
+greatest-keeps s Pass = refl
+greatest-keeps s (Refused n) = refl
+
+pub greatest-next : (s : Reach) {r : Greatest} → r ≡ greatest s
+    → reachOf (s .bed) (s .depth) (s .discharge) (s .mass) (s .base) (s .carried) (s .cellLength) (r .ends) (r .ledger) ≡ next s askGreatest
+unfolding greatest
+greatest-next s e = rw e (greatest-keeps s (firstRefusal (recordGrounds s (s .ends))))
+
+pub write-next : (s : Reach) (room : ℕ) {out out' : List ℕ} {r : Written} → WriteCameTo s out r out'
+    → reachOf (s .bed) (s .depth) (s .discharge) (s .mass) (s .base) (s .carried) (s .cellLength) (r .ends) (r .ledger) ≡ next s (writeInto room)
+write-next s room k = rw (k .ends-are, k .ledger-is) refl
+
+-- an opening looks at no more of the record than the lengths of its columns
+abbrev lentOf : Reach → Reach
+lentOf s = lent (s .bed) (s .depth) (s .discharge) (s .mass) (s .base) (s .carried)
+
+-- what grounds 1 to 7 say of a sheet and of columns as long as those of s
+abbrev pub openCheck : (sheet : List ℕ) → Reach → Check
+openCheck sheet s = firstRefusal (openGrounds sheet (length (s .bed)) (length (s .depth)) (length (s .discharge)) (length (s .mass)) (length (s .base)) (length (s .carried)))
+
+all-numbered : (sheet : List ℕ) (s : Reach)
+    → numbered (openGrounds sheet (length (s .bed)) (length (s .depth)) (length (s .discharge)) (length (s .mass)) (length (s .base)) (length (s .carried))) ≡ true
+unfolding numbered
+all-numbered sheet s = refl
+
+-- every statement about it, by the two ways it can go
+pub by-opening : (sheet : List ℕ) (s : Reach) (P : Check → Type 0)
+    → ((n : ℕ) → 0 < n → P (Refused n)) → (openCheck sheet s ≡ Pass → P Pass) → P (openCheck sheet s)
+by-opening sheet s P stays opens = go (openCheck sheet s) refl
+  where
+    go : (k : Check) → openCheck sheet s ≡ k → P k
+    go Pass e = opens e
+    go (Refused n) e = stays n (refused-number _ n (all-numbered sheet s) e)
+
+pub open-next : (s : Reach) (sheet : List ℕ) {r : Opened} {z : List ℤ} {h : List ℕ} {q : List ℤ} {m b : List ℕ} {c : List ℤ}
+    → OpenCameTo (opening sheet (lentOf s)) r z h q m b c → goesOn s r z h q m b c ≡ next s (reopen sheet)
+unfolding opening
+open-next s sheet k =
+    rw (k .refusal-is, k .length-is, k .ends-are, k .ledger-is, k .bed-is, k .depth-is, k .discharge-is, k .mass-is, k .base-is, k .carried-is)
+    (by-opening sheet s
+    (λ (x : Check). let r = outcome x (lentOf s) (sheetRecord sheet) in
+    goesOn s (record { refusal = r .refusal; «cell_length» = r .reach .cellLength; ends = r .reach .ends; ledger = r .reach .ledger })
+    (r .reach .bed) (r .reach .depth) (r .reach .discharge) (r .reach .mass) (r .reach .base) (r .reach .carried)
+    ≡ outcome x s (sheetRecord sheet) .reach)
+    (λ n p. rw (ne-eqb n 0 (λ z. omega arith)) refl)
+    (λ e. refl))
+
+-- its number is the definition's
+pub open-number : (s : Reach) (sheet : List ℕ) {r : Opened} {z : List ℤ} {h : List ℕ} {q : List ℤ} {m b : List ℕ} {c : List ℤ}
+    → OpenCameTo (opening sheet (lentOf s)) r z h q m b c → opening sheet s .refusal ≡ r .refusal
+unfolding opening
+open-number s sheet k =
+    by-opening sheet s (λ (x : Check). outcome x s (sheetRecord sheet) .refusal ≡ outcome x (lentOf s) (sheetRecord sheet) .refusal) (λ n p. refl) (λ e. refl)
+    ∙ sym (k .refusal-is)

@@ -1,0 +1,265 @@
+-- What holds of the tally after every list of calls, by induction on the list; and that its own record is the program's.
+use mathlib.Core.Path.{_≡_, refl, sym, ap, _∙_, subst}
+use mathlib.Core.Bool.{Bool, true, false, cond}
+use mathlib.Core.List.{List, [], _∷_}
+use Prim.Native.Nat.{ℕ, suc, _+_, _-_, _<_, _≤_}
+use native.Mathlib.Omega.{arith}
+use borrow.Author.Tests.{ne-eqb, lt-ltb, le-leb}
+use lib.Dec.{eqb}
+use lib.IntN.{ℤ, pos}
+use lib.Signed.{leZ}
+use lib.ListN.{length}
+use Rattle.numbers.specs.Signed.{positive}
+use Rattle.mass.specs.Transport.{rightwards, leftwards, leftShare, rightShare}
+use Rattle.reach.specs.Reach.{Reach, cells}
+use Rattle.reach.specs.Grounds.{firstRefusal, ledgerFits}
+use Rattle.reach.specs.Outcome.{Outcome, outcome}
+use Rattle.reach.specs.Balance.{waterHeld, waterIn, waterOut, WaterBalanced, massHeld, massIn, massOut, MassBalanced, CellsWithin, EndsWithin}
+use Rattle.reach.specs.declared.boundary.Boundary.{Boundary}
+use Rattle.reach.specs.declared.ledger.Ledger.{Ledger}
+use Rattle.reach.specs.declared.refusal.Check.{Check}
+use Rattle.reach.specs.declared.refusal.Check.the-variants.{Pass, Refused}
+use Rattle.reach.proofs.Sound.{Sound}
+use Rattle.transport.specs.Calls.{enteringLeft, enteringRight, columnsOf, withMass, ledgerWith, transportLedger, transported, transport, setBoundaries}
+use Rattle.transport.proofs.CallsLaws.{by-outcome, transported-balanced, transported-within}
+use Rattle.water.specs.Water.{netAt, newDepth}
+use Rattle.cfl.specs.Cfl.{meetsCfl}
+use Rattle.stepping.specs.GreatestStep.{placeSpeed, greatest}
+use Rattle.stepping.specs.Step.{keepsSums, settledFirst, withWater, withEndWater, stepLedger, stepped, step}
+use Rattle.stepping.proofs.StepLaws.{by-step, depth-not-negative, step-water-balanced, step-mass-balanced, step-within}
+use Rattle.sheet.specs.Header.{endsOf}
+use Rattle.sheet.specs.Opening.{sheetRecord, opening}
+use Rattle.tally.specs.Call.{Call, stepBy, settle, setEnds, askGreatest, writeInto, reopen, refusalOf, next, final}
+use Rattle.tally.specs.Tally.{Step, Tally, addWater, addMass, addStep, withSums, start, afterStep, afterSettling, afterSetting, accepted, unless, count, run}
+use Rattle.tally.specs.Holds.{Each, DepthsFromZero, Accounts, Holds, OfDefinitions}
+use Rattle.tally.proofs.CallLaws.{openCheck, by-opening}
+
+-- ---- the tally's sums are the ledger of the definitions: document 01 gives each once as a book and once as a tally
+
+module _ (s : Reach) (k : Sound s) where
+  first-out : leftwards (columnsOf s) 0 ≡ leftShare (columnsOf s) 0
+  unfolding leftwards
+  first-out = let n = k .some in let m = k .masses in rw (lt-ltb 0 (length (s .mass)) (omega arith)) refl
+
+  last-out : rightwards (columnsOf s) (cells s) ≡ rightShare (columnsOf s) (cells s - 1)
+  unfolding rightwards
+  last-out =
+      let n = k .some in
+      let e : cells s ≡ suc (cells s - 1) = omega arith in
+      ap (rightwards (columnsOf s)) e
+
+  pub mass-added : addMass s (s .ledger) ≡ transportLedger s
+  unfolding addMass transportLedger ledgerWith withMass enteringLeft enteringRight
+  mass-added = rw (first-out, last-out) refl
+
+  pub step-added : (t : ℕ) → addStep s t (s .ledger) ≡ stepLedger s t
+  unfolding addStep addWater stepLedger withEndWater withWater settledFirst transported
+  step-added t = rw mass-added (go (keepsSums s t))
+    where
+      go : (b : Bool) →
+          addWater (netAt s t 0) (netAt s t (cells s)) (cond b (s .ledger) (transportLedger s))
+          ≡ withEndWater (cond b s (transported s (s .ends)) .ledger) (netAt s t 0) (netAt s t (cells s))
+      go true = refl
+      go false = refl
+
+-- ---- what every call keeps
+
+pub record Kept (T : Tally) : Type 0 where
+  pub holds : Holds T (T .own)
+  -- what the bounds of a settling need
+  pub ends-within : (lo hi : ℕ) → Each (EndsWithin lo hi) (T .held) → EndsWithin lo hi (T .own .ends)
+
+start-kept : (sheet : List ℕ) → Kept (start sheet)
+unfolding start sheetRecord waterHeld waterIn waterOut massHeld massIn massOut Each Accounts
+start-kept sheet = record {
+  holds = record {
+    water = omega arith;
+    mass = omega arith;
+    ledger = refl;
+    depths = tt;
+    bounds = λ lo hi c e. record { above = c .above; below = c .below };
+  };
+  ends-within = λ lo hi e. e .0;
+}
+
+from-zero : (n : ℕ) → leZ (pos 0) (pos n) ≡ true
+from-zero n = le-leb 0 n (omega arith)
+
+module _ (T : Tally) (K : Kept T) where
+  -- what a balanced call makes of the account since the opening
+  water-on : (s : Reach) (k : Ledger) → s .ledger ≡ k → WaterBalanced (T .own) s → Accounts (waterHeld s) (waterHeld (T .opening)) (waterIn k) (waterOut k)
+  unfolding WaterBalanced Accounts
+  water-on s k e b =
+      let h = K .holds .water in
+      let f = K .holds .ledger in
+      let i = ap waterIn f in
+      let o = ap waterOut f in
+      let i' = ap waterIn e in
+      let o' = ap waterOut e in
+      omega arith
+
+  mass-on : (s : Reach) (k : Ledger) → s .ledger ≡ k → MassBalanced (T .own) s → Accounts (massHeld s) (massHeld (T .opening)) (massIn k) (massOut k)
+  unfolding MassBalanced Accounts
+  mass-on s k e b =
+      let h = K .holds .mass in
+      let f = K .holds .ledger in
+      let i = ap massIn f in
+      let o = ap massOut f in
+      let i' = ap massIn e in
+      let o' = ap massOut e in
+      omega arith
+
+  -- the sums go on as the ledger does
+  sums-step : Sound (T .own) → (t : ℕ) → stepped (T .own) t .ledger ≡ addStep (T .own) t (T .sums)
+  unfolding stepped
+  sums-step k t = sym (step-added (T .own) k t) ∙ ap (addStep (T .own) t) (K .holds .ledger)
+
+  sums-mass : Sound (T .own) → (es : List Boundary) → transported (T .own) es .ledger ≡ addMass (T .own) (T .sums)
+  unfolding transported
+  sums-mass k es = sym (mass-added (T .own) k) ∙ ap (addMass (T .own)) (K .holds .ledger)
+
+  step-kept : (t : ℕ) → Sound (T .own) → meetsCfl (placeSpeed (T .own)) (cells (T .own) + 1) (T .own .cellLength) t ≡ true → Kept (afterStep T t)
+  unfolding afterStep Each DepthsFromZero waterHeld massHeld stepped
+  step-kept t k c =
+      let e = sums-step k t in record {
+        holds = record {
+          ledger = refl;
+          water = water-on (stepped (T .own) t) _ e (step-water-balanced (T .own) k t c);
+          mass = mass-on (stepped (T .own) t) _ e (step-mass-balanced (T .own) k t);
+          depths = (λ i l. ap (leZ (pos 0)) (depth-not-negative (T .own) k t c i l) ∙ from-zero (positive (newDepth (T .own) t i)), K .holds .depths);
+          bounds = λ lo hi o h.
+              let w = step-within (T .own) k t lo hi (K .holds .bounds lo hi o h) (K .ends-within lo hi h) in
+              record { above = w .above; below = w .below };
+        };
+        ends-within = K .ends-within;
+      }
+
+  settled-water : (es : List Boundary) → WaterBalanced (T .own) (transported (T .own) es)
+  unfolding WaterBalanced waterHeld waterIn waterOut transported transportLedger ledgerWith withMass
+  settled-water es = refl
+
+  setting-kept : (es : List Boundary) → Sound (T .own) → Kept (afterSetting T es)
+  unfolding afterSetting Each waterHeld massHeld transported
+  setting-kept es k =
+      let e = sums-mass k es in record {
+        holds = record {
+          ledger = refl;
+          water = water-on (transported (T .own) es) _ e (settled-water es);
+          mass = mass-on (transported (T .own) es) _ e (transported-balanced (T .own) k es);
+          depths = K .holds .depths;
+          bounds = λ lo hi o h.
+              let w = transported-within (T .own) k es lo hi (K .holds .bounds lo hi o (h .1)) (K .ends-within lo hi (h .1)) in
+              record { above = w .above; below = w .below };
+        };
+        ends-within = λ lo hi h. h .0;
+      }
+
+  settling-kept : Sound (T .own) → Kept (afterSettling T)
+  unfolding afterSettling waterHeld massHeld transported
+  settling-kept k =
+      let es = T .own .ends in
+      let e = sums-mass k es in record {
+        holds = record {
+          ledger = refl;
+          water = water-on (transported (T .own) es) _ e (settled-water es);
+          mass = mass-on (transported (T .own) es) _ e (transported-balanced (T .own) k es);
+          depths = K .holds .depths;
+          bounds = λ lo hi o h.
+              let w = transported-within (T .own) k es lo hi (K .holds .bounds lo hi o h) (K .ends-within lo hi h) in
+              record { above = w .above; below = w .below };
+        };
+        ends-within = K .ends-within;
+      }
+
+  -- the tally after a call of refusal n
+  abbrev after : ℕ → Call → Tally
+  after n c = unless n T (accepted T c)
+
+  stays : (n : ℕ) (c : Call) → 0 < n → after n c ≡ T
+  unfolding unless
+  stays n c p = rw (ne-eqb n 0 (λ z. omega arith)) refl
+
+  either : (c : Call) → Kept (accepted T c) → Kept (after (refusalOf (T .own) c) c)
+  unfolding unless
+  either c k = go (eqb (refusalOf (T .own) c) 0)
+    where
+      go : (b : Bool) → Kept (cond b (accepted T c) T)
+      go true = k
+      go false = K
+
+  pub count-kept : (c : Call) → Kept (count T c)
+  unfolding count unless transport
+  count-kept (stepBy t) =
+      by-step (T .own) t (λ o. Kept (after (o .refusal) (stepBy t)))
+      (λ n p. subst Kept (sym (stays n (stepBy t) p)) K)
+      (λ k c d l. step-kept t k c)
+  count-kept settle =
+      by-outcome (T .own) (T .own .ends) (λ o. Kept (after (o .refusal) settle))
+      (λ n p. subst Kept (sym (stays n settle p)) K)
+      (λ k f l. settling-kept k)
+  count-kept (setEnds es) =
+      by-outcome (T .own) es (λ o. Kept (after (o .refusal) (setEnds es)))
+      (λ n p. subst Kept (sym (stays n (setEnds es) p)) K)
+      (λ k f l. setting-kept es k)
+  count-kept askGreatest = either askGreatest K
+  count-kept (writeInto room) = either (writeInto room) K
+  count-kept (reopen sheet) = either (reopen sheet) (start-kept sheet)
+
+  -- ---- the tally's own record moves as the program's does
+
+  pub count-next : (c : Call) → count T c .own ≡ next (T .own) c
+  unfolding count unless transport afterStep afterSettling afterSetting stepped transported start opening sheetRecord
+  count-next (stepBy t) =
+      by-step (T .own) t (λ o. after (o .refusal) (stepBy t) .own ≡ o .reach)
+      (λ n p. ap (λ (x : Tally). x .own) (stays n (stepBy t) p))
+      (λ k c d l. ap (withSums (stepped (T .own) t)) (sym (sums-step k t)))
+  count-next settle =
+      by-outcome (T .own) (T .own .ends) (λ o. after (o .refusal) settle .own ≡ o .reach)
+      (λ n p. ap (λ (x : Tally). x .own) (stays n settle p))
+      (λ k f l. ap (withSums (transported (T .own) (T .own .ends))) (sym (sums-mass k (T .own .ends))))
+  count-next (setEnds es) =
+      by-outcome (T .own) es (λ o. after (o .refusal) (setEnds es) .own ≡ o .reach)
+      (λ n p. ap (λ (x : Tally). x .own) (stays n (setEnds es) p))
+      (λ k f l. ap (withSums (transported (T .own) es)) (sym (sums-mass k es)))
+  count-next askGreatest = go (eqb (greatest (T .own) .refusal) 0)
+    where
+      go : (b : Bool) → cond b T T .own ≡ T .own
+      go true = refl
+      go false = refl
+  count-next (writeInto room) = go (eqb (refusalOf (T .own) (writeInto room)) 0)
+    where
+      go : (b : Bool) → cond b T T .own ≡ T .own
+      go true = refl
+      go false = refl
+  count-next (reopen sheet) =
+      by-opening sheet (T .own) (λ (x : Check). after (outcome x (T .own) (sheetRecord sheet) .refusal) (reopen sheet) .own ≡ outcome x (T .own) (sheetRecord sheet) .reach)
+      (λ n p. ap (λ (x : Tally). x .own) (stays n (reopen sheet) p))
+      (λ e. refl)
+
+pub run-kept : (T : Tally) → Kept T → (cs : List Call) → Kept (run T cs)
+unfolding run
+run-kept T K [] = K
+run-kept T K (c ∷ cs) = run-kept (count T c) (count-kept T K c) cs
+
+pub run-final : (T : Tally) → Kept T → (cs : List Call) → run T cs .own ≡ final (T .own) cs
+unfolding run final
+run-final T K [] = refl
+run-final T K (c ∷ cs) = run-final (count T c) (count-kept T K c) cs ∙ ap (λ (s : Reach). final s cs) (count-next T K c)
+
+-- ---- of a whole list
+
+-- an accepted opening leaves the tally's own record
+pub opened-own : (sheet : List ℕ) (l : Reach) → opening sheet l .refusal ≡ 0 → opening sheet l .reach ≡ start sheet .own
+unfolding opening start sheetRecord
+opened-own sheet l e =
+    by-opening sheet l
+    (λ (x : Check). outcome x l (sheetRecord sheet) .refusal ≡ 0 → outcome x l (sheetRecord sheet) .reach ≡ start sheet .own)
+    (λ n p z. absurd (omega arith))
+    (λ p z. refl)
+    e
+
+pub of-definitions : OfDefinitions
+of-definitions sheet l cs e =
+    subst (Holds (run (start sheet) cs))
+    (run-final (start sheet) (start-kept sheet) cs ∙ ap (λ (s : Reach). final s cs) (sym (opened-own sheet l e)))
+    (run-kept (start sheet) (start-kept sheet) cs .holds)
