@@ -1,0 +1,46 @@
+-- A chain of the functions' contracts is a list of the definitions' calls, so what holds of these holds of it.
+use mathlib.Core.Path.{_≡_, refl, sym, ap, _∙_, subst}
+use mathlib.Core.List.{List, [], _∷_}
+use Prim.Native.Nat.{ℕ}
+use denote.Ref.{now}
+use lib.IntN.{ℤ}
+use Rattle.reach.specs.Reach.{Reach}
+use Rattle.reach.specs.declared.boundary.Boundary.{Boundary}
+use Rattle.sheet.specs.Opening.{opening}
+use Rattle.sheet.specs.declared.opening.Opened.{Opened}
+use Rattle.tally.specs.Call.{Call, stepBy, settle, setEnds, askGreatest, writeInto, reopen, next, final, goesOn}
+use Rattle.tally.specs.Tally.{start, run}
+use Rattle.tally.specs.Holds.{Holds}
+use Rattle.tally.proofs.CallLaws.{step-next, settle-next, setting-next, greatest-next, write-next, open-next, open-number}
+use Rattle.tally.proofs.TallyLaws.{of-definitions}
+use Rattle.trace.specs.Trace.{given, Opens, Link, Chain, done, then, Demand3}
+
+-- each contract gives the record that `next` says, of the record that was given; and that was s
+link : (s : Reach) (c : Call) (s' : Reach) → Link s c s' → s' ≡ next s c
+link s (stepBy t) s' k = k .left ∙ step-next (given (k .l) s) t (k .ensured) ∙ ap (λ (x : Reach). next x (stepBy t)) (sym (k .came))
+link s settle s' k = k .left ∙ settle-next (given (k .l) s) (k .ensured) ∙ ap (λ (x : Reach). next x settle) (sym (k .came))
+link s (setEnds es) s' k = k .left ∙ setting-next (given (k .l) s) es (k .ensured) ∙ ap (λ (x : Reach). next x (setEnds es)) (sym (k .came))
+link s askGreatest s' k = k .left ∙ greatest-next (given (k .l) s) (k .ensured) ∙ ap (λ (x : Reach). next x askGreatest) (sym (k .came))
+link s (writeInto room) s' k = k .left ∙ write-next (given (k .l) s) room (k .ensured) ∙ ap (λ (x : Reach). next x (writeInto room)) (sym (k .came))
+link s (reopen sheet) s' k =
+    k .left
+    ∙ open-next (given (k .l) s) _ (k .ensured)
+    ∙ ap (λ (x : Reach). next x (reopen (now (k .bytes)))) (sym (k .came))
+    ∙ ap (λ (b : List ℕ). next s (reopen b)) (sym (k .fed))
+
+chain : {s s' : Reach} {cs : List Call} → Chain s cs s' → s' ≡ final s cs
+unfolding final
+chain (done {s}) = refl
+chain (then {s} {s'} {s''} {c} {cs} l k) = chain k ∙ ap (λ (x : Reach). final x cs) (link s c s' l)
+
+-- the first opening was accepted by the definition too
+accepted : {s s' : Reach} {sheet : List ℕ} → (k : Opens s sheet s') → k .r .refusal ≡ 0 → opening sheet s .refusal ≡ 0
+accepted {s} {s'} {sheet} k e =
+    subst (λ (x : Reach). opening sheet x .refusal ≡ 0) (sym (k .came))
+    (subst (λ (b : List ℕ). opening b (given (k .l) s) .refusal ≡ 0) (sym (k .fed))
+    (open-number (given (k .l) s) _ (k .ensured) ∙ e))
+
+pub demand-3 : Demand3
+demand-3 sheet cs before opened after first e rest =
+    subst (Holds (run (start sheet) cs)) (sym (chain rest ∙ ap (λ (x : Reach). final x cs) (link before (reopen sheet) opened first)))
+    (of-definitions sheet before cs (accepted first e))

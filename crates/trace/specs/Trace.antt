@@ -1,0 +1,159 @@
+-- Demand 3 of the functions themselves: a list of calls is a chain whose links are the functions' own contracts, as they stand in src/
+-- (`Post` of each function's `Reads`), and after every such chain from an accepted opening on, `Holds` says what holds.
+use mathlib.Core.Path.{_≡_}
+use mathlib.Core.List.{List, [], _∷_}
+use Prim.Native.Nat.{ℕ}
+use contract.Lifetimes.{Lfts}
+use denote.Ref.{RefT, now, at-last}
+use lib.IntN.{ℤ}
+use lib.ListN.{length}
+use Rattle.reach.specs.Reach.{Reach, reachOf}
+use Rattle.reach.specs.declared.boundary.Boundary.{Boundary}
+use Rattle.transport.specs.declared.Answer.{Answer}
+use Rattle.stepping.specs.declared.Greatest.{Greatest}
+use Rattle.stepping.specs.declared.step.Stepped.{Stepped}
+use Rattle.sheet.specs.declared.opening.Opened.{Opened}
+use Rattle.writing.specs.declared.write.Written.{Written}
+use Rattle.tally.specs.Call.{Call, stepBy, settle, setEnds, askGreatest, writeInto, reopen, goesOn}
+use Rattle.tally.specs.Tally.{start, run}
+use Rattle.tally.specs.Holds.{Holds}
+use Rattle.stepping.proofs.step.step.Reads as step-reads
+use Rattle.stepping.proofs.greatest_step.Reads as greatest-reads
+use Rattle.transport.proofs.transport.Reads as transport-reads
+use Rattle.transport.proofs.set_boundaries.Reads as setting-reads
+use Rattle.sheet.proofs.opening.open_sheet.Reads as opening-reads
+use Rattle.writing.proofs.write.write_sheet.Reads as writing-reads
+
+-- the columns as the caller lends them to a call
+pub record Lent : Type 0 where
+  pub bed : RefT (List ℤ)
+  pub depth : RefT (List ℕ)
+  pub discharge : RefT (List ℤ)
+  pub mass : RefT (List ℕ)
+  pub base : RefT (List ℕ)
+  pub carried : RefT (List ℤ)
+
+-- the record that a call is given: the columns and X as they stand, ends and ledger as last handed back
+abbrev pub given : Lent → Reach → Reach
+given l s = reachOf (now (l .bed)) (now (l .depth)) (now (l .discharge)) (now (l .mass)) (now (l .base)) (now (l .carried)) (s .cellLength) (s .ends) (s .ledger)
+
+-- in each link: the lent columns are those of s (`came`); the function answered r and left the columns with the values named here, as its
+-- contract says (`ensured`); and s' is what stands in the columns after it, with X and the ends and ledger that it handed back (`left`)
+
+-- a step of t
+pub record Steps (s : Reach) (t : ℕ) (s' : Reach) : Type 0 where
+  pub κs : Lfts 6
+  pub l : Lent
+  pub came : s ≡ given l s
+  pub r : Stepped
+  pub depth : List ℕ
+  pub discharge : List ℤ
+  pub mass : List ℕ
+  pub base : List ℕ
+  pub carried : List ℤ
+  pub ensured : step-reads.Post κs
+      (l .bed, (l .depth, (l .discharge, (l .mass, (l .base, (l .carried, (s .cellLength, (s .ends, (s .ledger, (t, tt))))))))))
+      r
+      (l .bed, (at-last (l .depth) depth, (at-last (l .discharge) discharge, (at-last (l .mass) mass, (at-last (l .base) base, (at-last (l .carried) carried, (s .cellLength, (s .ends, (s .ledger, (t, tt))))))))))
+  pub left : s' ≡ reachOf (now (l .bed)) depth discharge mass base carried (s .cellLength) (r .ends) (r .ledger)
+
+-- a settling
+pub record Settles (s s' : Reach) : Type 0 where
+  pub κs : Lfts 6
+  pub l : Lent
+  pub came : s ≡ given l s
+  pub r : Answer
+  pub mass : List ℕ
+  pub base : List ℕ
+  pub carried : List ℤ
+  pub ensured : transport-reads.Post κs
+      (l .bed, (l .depth, (l .discharge, (l .mass, (l .base, (l .carried, (s .cellLength, (s .ends, (s .ledger, tt)))))))))
+      r
+      (l .bed, (l .depth, (l .discharge, (at-last (l .mass) mass, (at-last (l .base) base, (at-last (l .carried) carried, (s .cellLength, (s .ends, (s .ledger, tt)))))))))
+  pub left : s' ≡ reachOf (now (l .bed)) (now (l .depth)) (now (l .discharge)) mass base carried (s .cellLength) (r .ends) (r .ledger)
+
+-- an end setting, given a new pair
+pub record Sets (s : Reach) (es : List Boundary) (s' : Reach) : Type 0 where
+  pub κs : Lfts 6
+  pub l : Lent
+  pub came : s ≡ given l s
+  pub r : Answer
+  pub mass : List ℕ
+  pub base : List ℕ
+  pub carried : List ℤ
+  pub ensured : setting-reads.Post κs
+      (l .bed, (l .depth, (l .discharge, (l .mass, (l .base, (l .carried, (s .cellLength, (s .ends, (s .ledger, (es, tt))))))))))
+      r
+      (l .bed, (l .depth, (l .discharge, (at-last (l .mass) mass, (at-last (l .base) base, (at-last (l .carried) carried, (s .cellLength, (s .ends, (s .ledger, (es, tt))))))))))
+  pub left : s' ≡ reachOf (now (l .bed)) (now (l .depth)) (now (l .discharge)) mass base carried (s .cellLength) (r .ends) (r .ledger)
+
+-- a greatest-step call
+pub record Asks (s s' : Reach) : Type 0 where
+  pub κs : Lfts 6
+  pub l : Lent
+  pub came : s ≡ given l s
+  pub r : Greatest
+  pub ensured : greatest-reads.Post κs
+      (l .bed, (l .depth, (l .discharge, (l .mass, (l .base, (l .carried, (s .cellLength, (s .ends, (s .ledger, tt)))))))))
+      r
+      (l .bed, (l .depth, (l .discharge, (l .mass, (l .base, (l .carried, (s .cellLength, (s .ends, (s .ledger, tt)))))))))
+  pub left : s' ≡ reachOf (now (l .bed)) (now (l .depth)) (now (l .discharge)) (now (l .mass)) (now (l .base)) (now (l .carried)) (s .cellLength) (r .ends) (r .ledger)
+
+-- a write into an output of `room` bytes, which is none of the columns
+pub record Writes (s : Reach) (room : ℕ) (s' : Reach) : Type 0 where
+  pub κs : Lfts 7
+  pub l : Lent
+  pub came : s ≡ given l s
+  pub out : RefT (List ℕ)
+  pub long : room ≡ length (now out)
+  pub r : Written
+  pub written : List ℕ
+  pub ensured : writing-reads.Post κs
+      (l .bed, (l .depth, (l .discharge, (l .mass, (l .base, (l .carried, (s .cellLength, (s .ends, (s .ledger, (out, tt))))))))))
+      r
+      (l .bed, (l .depth, (l .discharge, (l .mass, (l .base, (l .carried, (s .cellLength, (s .ends, (s .ledger, (at-last out written, tt))))))))))
+  pub left : s' ≡ reachOf (now (l .bed)) (now (l .depth)) (now (l .discharge)) (now (l .mass)) (now (l .base)) (now (l .carried)) (s .cellLength) (r .ends) (r .ledger)
+
+-- an opening: 'a refused opening in between leaves the columns, and the list goes on with the ends and book it had'
+pub record Opens (s : Reach) (sheet : List ℕ) (s' : Reach) : Type 0 where
+  pub κs : Lfts 7
+  pub bytes : RefT (List ℕ)
+  pub fed : sheet ≡ now bytes
+  pub l : Lent
+  pub came : s ≡ given l s
+  pub r : Opened
+  pub bed : List ℤ
+  pub depth : List ℕ
+  pub discharge : List ℤ
+  pub mass : List ℕ
+  pub base : List ℕ
+  pub carried : List ℤ
+  pub ensured : opening-reads.Post κs
+      (bytes, (l .bed, (l .depth, (l .discharge, (l .mass, (l .base, (l .carried, tt)))))))
+      r
+      (bytes, (at-last (l .bed) bed, (at-last (l .depth) depth, (at-last (l .discharge) discharge, (at-last (l .mass) mass, (at-last (l .base) base, (at-last (l .carried) carried, tt)))))))
+  pub left : s' ≡ goesOn s r bed depth discharge mass base carried
+
+abbrev pub Link : Reach → Call → Reach → Type 0
+Link s (stepBy t) s' = Steps s t s'
+Link s settle s' = Settles s s'
+Link s (setEnds es) s' = Sets s es s'
+Link s askGreatest s' = Asks s s'
+Link s (writeInto room) s' = Writes s room s'
+Link s (reopen sheet) s' = Opens s sheet s'
+
+-- 'each call getting the record, ends and book as the last left them'
+pub data Chain : Reach → List Call → Reach → Type 0 where
+  done : {s : Reach} → Chain s [] s
+  then : {s s' s'' : Reach} {c : Call} {cs : List Call} → Link s c s' → Chain s' cs s'' → Chain s (c ∷ cs) s''
+
+-- Demand 3. 'For every list of steps, settlings, end settings, greatest-step calls and writes from an accepted opening on, refused ones
+-- included, whatever times, ends and outputs they are given': an opening of a sheet into whatever columns were lent, which was not refused,
+-- then any list of calls.
+abbrev pub Demand3 : Type 0
+Demand3 =
+    (sheet : List ℕ) (cs : List Call) (before opened after : Reach) →
+    (first : Opens before sheet opened) →
+    first .r .refusal ≡ 0 →
+    Chain opened cs after →
+    Holds (run (start sheet) cs) after
