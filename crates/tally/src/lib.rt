@@ -5,5 +5,4 @@ ghost use Rattle.tally.specs.Holds.{OfDefinitions};
 // No effect: the crate is proved only with the theorem.
 pub fn of_definitions()
     ensures { λ _. ⌜ OfDefinitions ⌝ }
-{
-}
+{}

@@ -4,5 +4,4 @@ ghost use Rattle.trace.specs.Trace.{Demand3};
 // No effect: the crate is proved only with the theorem.
 pub fn demand_3()
     ensures { λ _. ⌜ Demand3 ⌝ }
-{
-}
+{}

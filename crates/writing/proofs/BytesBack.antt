@@ -17,18 +17,7 @@ use Rattle.numbers.proofs.IndexLaws.{by-index, tabulate-same}
 use Rattle.sheet.specs.Bytes.{numberAt, twosIn, twos, columnAt}
 use Rattle.sheet.proofs.BytesLaws.{twos-low, twos-high}
 use Rattle.writing.specs.Bytes.{bytesOf, bitsIn, bits, columnBytes}
-
--- ---- lengths
-
-pub length-bytes : (w v : ℕ) → length (bytesOf w v) ≡ w
-unfolding bytesOf
-length-bytes zero v = refl
-length-bytes (suc w) v = ap suc (length-bytes w (v / 256))
-
-pub length-column : (w : ℕ) (vs : List ℕ) → length (columnBytes w vs) ≡ w * length vs
-unfolding columnBytes
-length-column w [] = omega arith
-length-column w (v ∷ vs) = length-append (bytesOf w v) (columnBytes w vs) ∙ omega (arith, length-bytes w v, length-column w vs)
+use Rattle.writing.proofs.WritingLaws.{length-bytes, length-column}
 
 -- ---- a number, further on in a list
 
@@ -120,8 +109,8 @@ column-again w s at zero h l = let z : w * zero ≡ 0 = omega arith in rw z refl
 column-again w s at (suc n) h l =
     let z : at + w * 0 ≡ at = omega arith in
     let same : tabulate n (λ i. numberAt w s (at + w * suc i)) ≡ columnAt (λ v. v) w s (at + w) n
-          = tabulate-same n (λ i. numberAt w s (at + w * suc i)) (λ i. numberAt w s (at + w + w * i))
-            (λ i k. ap (numberAt w s) (omega arith)) in
+    = tabulate-same n (λ i. numberAt w s (at + w * suc i)) (λ i. numberAt w s (at + w + w * i))
+    (λ i k. ap (numberAt w s) (omega arith)) in
     let more : w * suc n ≡ w + w * n = omega arith in
     rw (z, more)
     (ap₂ (λ (a b : List ℕ). a ++ b) (bytes-again w s at h (omega arith)) (ap (columnBytes w) same ∙ column-again w s (at + w) n h (omega arith))

@@ -1,4 +1,4 @@
+pub mod WritingLaws
 pub mod BytesBack
 pub mod RoundTripLaws
-pub mod WritingLaws
 mod Says

@@ -29,25 +29,8 @@ use Rattle.sheet.proofs.OpeningLaws.{accepted, opened-sound}
 use Rattle.writing.specs.Bytes.{bitsIn, bits, columnBytes, written}
 use Rattle.writing.specs.Writing.{boundaryBytes, bedsFrom, depthsFrom, dischargesFrom, massesFrom, headerBytes, sheetBytes, settledFits, roomFits, writeGrounds, outputBy, writeRefusal, outputAfter}
 use Rattle.writing.specs.RoundTrip.{LentFor, withEmptyLedger, ReadsBack, InWritersOrder, WrittenAgain}
-use Rattle.writing.proofs.BytesBack.{length-column, number-past, word-back, column-back, bits4-below, bits8-below, twos-bits4, twos-bits8, AllBytes, all-bytes, joined, column-again, turned-again, bits-twos4, bits-twos8}
-
--- ---- lengths
-
-pub length-boundary : (e : Boundary) → length (boundaryBytes e) ≡ 24
-unfolding boundaryBytes
-length-boundary e =
-    let ws : List ℕ = e .kind ∷ e .depth ∷ e .concentration ∷ 0 ∷ [] in
-    let d : List ℕ = bits 8 (e .discharge) ∷ [] in
-    length-append (columnBytes 4 ws) (columnBytes 8 d) ∙ omega (arith, length-column 4 ws, length-column 8 d)
-
-pub length-header : (n X : ℕ) (es : List Boundary) → length (headerBytes n X es) ≡ 80
-unfolding headerBytes
-length-header n X es =
-    let ws : List ℕ = 1 ∷ sheetSize n ∷ n ∷ X ∷ bedsFrom n ∷ depthsFrom n ∷ dischargesFrom n ∷ massesFrom n ∷ [] in
-    let l = boundaryBytes (leftEnd es) in
-    let r = boundaryBytes (rightEnd es) in
-    length-append (columnBytes 4 ws) (l ++ r)
-    ∙ omega (arith, length-column 4 ws, length-append l r, length-boundary (leftEnd es), length-boundary (rightEnd es))
+use Rattle.writing.proofs.WritingLaws.{length-column, length-boundary, length-header}
+use Rattle.writing.proofs.BytesBack.{number-past, word-back, column-back, bits4-below, bits8-below, twos-bits4, twos-bits8, AllBytes, all-bytes, joined, column-again, turned-again, bits-twos4, bits-twos8}
 
 -- ---- the header read back
 
@@ -80,14 +63,14 @@ boundary-back p q e at l f =
     let kind = kind-small e f in
     let flat : b ++ q ≡ columnBytes 4 ws ++ (columnBytes 8 ds ++ q) = append-assoc (columnBytes 4 ws) (columnBytes 8 ds) q in
     let word : (i j : ℕ) → j ≡ at + 4 * i → i < 4 → getD ws i 0 < 256 ^ 4 → numberAt 4 (p ++ (b ++ q)) j ≡ getD ws i 0
-          = λ i j e₁ e₂ e₃.
-            number-past 4 p (b ++ q) (4 * i) j (omega arith) ∙ ap (λ (x : List ℕ). numberAt 4 x (4 * i)) flat
-            ∙ word-back 4 ws (columnBytes 8 ds ++ q) i e₂ e₃ in
+    = λ i j e₁ e₂ e₃.
+    number-past 4 p (b ++ q) (4 * i) j (omega arith) ∙ ap (λ (x : List ℕ). numberAt 4 x (4 * i)) flat
+    ∙ word-back 4 ws (columnBytes 8 ds ++ q) i e₂ e₃ in
     let small : natAbs (e .discharge) < 9_223_372_036_854_775_808 = omega (arith, k .discharge, k .depth) in
     let last : numberAt 8 (p ++ (b ++ q)) (at + 16) ≡ bits 8 (e .discharge)
-          = number-past 8 p (b ++ q) 16 (at + 16) (omega arith) ∙ ap (λ (x : List ℕ). numberAt 8 x 16) flat
-            ∙ number-past 8 (columnBytes 4 ws) (columnBytes 8 ds ++ q) 0 16 (omega (arith, length-column 4 ws))
-            ∙ word-back 8 ds q 0 (omega arith) (bits8-below (e .discharge) small) in
+    = number-past 8 p (b ++ q) 16 (at + 16) (omega arith) ∙ ap (λ (x : List ℕ). numberAt 8 x 16) flat
+    ∙ number-past 8 (columnBytes 4 ws) (columnBytes 8 ds ++ q) 0 16 (omega (arith, length-column 4 ws))
+    ∙ word-back 8 ds q 0 (omega arith) (bits8-below (e .discharge) small) in
     same-boundary _ _ _ _ _ e
     (word 0 at (omega arith) (omega arith) (omega arith))
     (word 3 (at + 12) (omega arith) (omega arith) (omega arith) ∙ sym (none-reserved e f))
@@ -122,7 +105,7 @@ header-back n X es q few x f =
     let flat : t ≡ w ++ (l ++ (r ++ q)) = append-assoc w (l ++ r) q ∙ ap (λ (y : List ℕ). w ++ y) (append-assoc l r q) in
     let flat₂ : t ≡ (w ++ l) ++ (r ++ q) = flat ∙ sym (append-assoc w l (r ++ q)) in
     let word : (i : ℕ) → i < 8 → getD ws i 0 < 256 ^ 4 → numberAt 4 t (4 * i) ≡ getD ws i 0
-          = λ i e₁ e₂. ap (λ (y : List ℕ). numberAt 4 y (4 * i)) flat ∙ word-back 4 ws (l ++ (r ++ q)) i e₁ e₂ in
+    = λ i e₁ e₂. ap (λ (y : List ℕ). numberAt 4 y (4 * i)) flat ∙ word-back 4 ws (l ++ (r ++ q)) i e₁ e₂ in
     let ends = all-of _ f in
     record {
       edition = word 0 (omega arith) (omega arith);
@@ -233,22 +216,22 @@ module _ (s : Reach) where
     depths-back =
         ap (λ (y : List ℕ). columnAt (λ v. v) 4 y (depthsFrom n) n) from-depths
         ∙ column-back (λ v. v) 4 (head ++ bedColumn) (s .depth) (dischargeColumn ++ massColumn) (s .depth) 0 (depthsFrom n) n
-          to-depths (k .depths) (k .depths) (λ i l. omega (arith, k .cell i l .depth)) (λ i l. refl)
+        to-depths (k .depths) (k .depths) (λ i l. omega (arith, k .cell i l .depth)) (λ i l. refl)
 
     discharges-back : columnAt (twos 8) 8 t (dischargesFrom n) n ≡ s .discharge
     discharges-back =
         ap (λ (y : List ℕ). columnAt (twos 8) 8 y (dischargesFrom n) n) from-discharges
         ∙ column-back (twos 8) 8 ((head ++ bedColumn) ++ depthColumn) (map (bits 8) (s .discharge)) massColumn (s .discharge) (pos 0) (dischargesFrom n) n
-          (to-discharges columns) (length-map (s .discharge) (bits 8) ∙ k .discharges) (k .discharges)
-          (λ i l. rw (entry8 i) (bits8-below (dischargeAt s i) (signed8 i l)))
-          (λ i l. rw (entry8 i) (twos-bits8 (dischargeAt s i) (signed8 i l)))
+        (to-discharges columns) (length-map (s .discharge) (bits 8) ∙ k .discharges) (k .discharges)
+        (λ i l. rw (entry8 i) (bits8-below (dischargeAt s i) (signed8 i l)))
+        (λ i l. rw (entry8 i) (twos-bits8 (dischargeAt s i) (signed8 i l)))
 
     masses-back : columnAt (λ v. v) 8 t (massesFrom n) n ≡ s .mass
     masses-back =
         ap (λ (y : List ℕ). columnAt (λ v. v) 8 y (massesFrom n) n)
-          (from-masses ∙ ap (λ (y : List ℕ). (((head ++ bedColumn) ++ depthColumn) ++ dischargeColumn) ++ y) (sym (append-nil massColumn)))
+        (from-masses ∙ ap (λ (y : List ℕ). (((head ++ bedColumn) ++ depthColumn) ++ dischargeColumn) ++ y) (sym (append-nil massColumn)))
         ∙ column-back (λ v. v) 8 (((head ++ bedColumn) ++ depthColumn) ++ dischargeColumn) (s .mass) [] (s .mass) 0 (massesFrom n) n
-          (to-masses columns) (k .masses) (k .masses) mass-small (λ i l. refl)
+        (to-masses columns) (k .masses) (k .masses) mass-small (λ i l. refl)
 
     headed : Headed t n (s .cellLength) (s .ends)
     unfolding sheetBytes
@@ -337,15 +320,15 @@ clear n =
     let end = 80 + 24 * n in
     four-clear end a b c d
     ∙ and-both _ _
-      (and-both _ _ (lies-inside end _ _ (omega arith) (omega arith))
-      (and-both _ _ (lies-before _ _ (80 + 4 * n) (4 * n) (omega arith))
-      (and-both _ _ (lies-before _ _ (80 + 8 * n) (8 * n) (omega arith)) (lies-before _ _ (80 + 16 * n) (8 * n) (omega arith)))))
-      (and-both _ _
-      (and-both _ _ (lies-inside end _ _ (omega arith) (omega arith))
-      (and-both _ _ (lies-before _ _ (80 + 8 * n) (8 * n) (omega arith)) (lies-before _ _ (80 + 16 * n) (8 * n) (omega arith))))
-      (and-both _ _
-      (and-both _ _ (lies-inside end _ _ (omega arith) (omega arith)) (lies-before _ _ (80 + 16 * n) (8 * n) (omega arith)))
-      (lies-inside end _ _ (omega arith) (omega arith))))
+    (and-both _ _ (lies-inside end _ _ (omega arith) (omega arith))
+    (and-both _ _ (lies-before _ _ (80 + 4 * n) (4 * n) (omega arith))
+    (and-both _ _ (lies-before _ _ (80 + 8 * n) (8 * n) (omega arith)) (lies-before _ _ (80 + 16 * n) (8 * n) (omega arith)))))
+    (and-both _ _
+    (and-both _ _ (lies-inside end _ _ (omega arith) (omega arith))
+    (and-both _ _ (lies-before _ _ (80 + 8 * n) (8 * n) (omega arith)) (lies-before _ _ (80 + 16 * n) (8 * n) (omega arith))))
+    (and-both _ _
+    (and-both _ _ (lies-inside end _ _ (omega arith) (omega arith)) (lies-before _ _ (80 + 16 * n) (8 * n) (omega arith)))
+    (lies-inside end _ _ (omega arith) (omega arith))))
 
 module _ (t : List ℕ) (n X : ℕ) (es : List Boundary) (h : Headed t n X es) (long : length t ≡ sheetSize n) where
   edition-stands : editionFits t ≡ true
@@ -388,14 +371,14 @@ opens s l e f two lf =
     let same = record-back s k f two in
     let gs = openGrounds t (length (l .bed)) (length (l .depth)) (length (l .discharge)) (length (l .mass)) (length (l .base)) (length (l .carried)) in
     let passes : firstRefusal gs ≡ Pass =
-      go-on _ _ (edition-stands t n X es h long)
-      (go-on _ _ (size-stands t n X es h long (k .some) (k .few))
-      (go-on _ _ (clear-stands t n X es h long)
-      (go-on _ _ (lent-stands t n X es h long l lf)
-      (go-on _ _ (ap cellLengthFits (h .cellLength) ∙ g 1)
-      (go-on _ _ (ap boundariesFit (ends-back t n X es h two) ∙ g 2)
-      (go-on _ _ (ap (λ (r : Reach). cellsFit (r .bed) (r .depth) (r .discharge) (r .mass) (r .base)) same ∙ g 4)
-      no-grounds)))))) in
+    go-on _ _ (edition-stands t n X es h long)
+    (go-on _ _ (size-stands t n X es h long (k .some) (k .few))
+    (go-on _ _ (clear-stands t n X es h long)
+    (go-on _ _ (lent-stands t n X es h long l lf)
+    (go-on _ _ (ap cellLengthFits (h .cellLength) ∙ g 1)
+    (go-on _ _ (ap boundariesFit (ends-back t n X es h two) ∙ g 2)
+    (go-on _ _ (ap (λ (r : Reach). cellsFit (r .bed) (r .depth) (r .discharge) (r .mass) (r .base)) same ∙ g 4)
+    no-grounds)))))) in
     accepted t l passes ∙ ap (λ (r : Reach). record { refusal = 0; reach = r }) same
 
 output-passed : (s : Reach) (out : List ℕ) → writeRefusal s (length out) ≡ Pass → outputAfter s out ≡ written (sheetBytes s) out
@@ -462,9 +445,9 @@ module _ (s : List ℕ) (bytes : AllBytes s) where
       let app : List ℕ → List ℕ → List ℕ = λ a b. a ++ b in
       let qm : q ++ m ≡ take (8 * n + 8 * n) (drop (80 + 8 * n) s) = ap₂ app e₄ e₅ ∙ joined s (80 + 8 * n) (8 * n) (8 * n) (80 + 16 * n) (omega arith) in
       let hm : h ++ (q ++ m) ≡ take (4 * n + (8 * n + 8 * n)) (drop (80 + 4 * n) s)
-            = ap₂ app e₃ qm ∙ joined s (80 + 4 * n) (4 * n) (8 * n + 8 * n) (80 + 8 * n) (omega arith) in
+      = ap₂ app e₃ qm ∙ joined s (80 + 4 * n) (4 * n) (8 * n + 8 * n) (80 + 8 * n) (omega arith) in
       let zm : z ++ (h ++ (q ++ m)) ≡ take (4 * n + (4 * n + (8 * n + 8 * n))) (drop 80 s)
-            = ap₂ app e₂ hm ∙ joined s 80 (4 * n) (4 * n + (8 * n + 8 * n)) (80 + 4 * n) refl in
+      = ap₂ app e₂ hm ∙ joined s 80 (4 * n) (4 * n + (8 * n + 8 * n)) (80 + 4 * n) refl in
       ap₂ app e₁ zm ∙ joined s 0 80 (4 * n + (4 * n + (8 * n + 8 * n))) 80 refl ∙ take-all (80 + (4 * n + (4 * n + (8 * n + 8 * n)))) s (omega arith)
 
   cells-are : cells (sheetRecord s) ≡ countOf s
@@ -478,15 +461,15 @@ module _ (s : List ℕ) (bytes : AllBytes s) where
       let n = countOf s in
       let X = cellLengthOf s in
       let beds : columnBytes 4 (map (bits 4) (columnAt (twos 4) 4 s (bedsAt s) n)) ≡ take (4 * n) (drop 80 s)
-            = ap (λ (at : ℕ). columnBytes 4 (map (bits 4) (columnAt (twos 4) 4 s at n))) (h .beds)
-              ∙ turned-again (twos 4) (bits 4) 4 s 80 n bytes (omega arith) bits-twos4 in
+      = ap (λ (at : ℕ). columnBytes 4 (map (bits 4) (columnAt (twos 4) 4 s at n))) (h .beds)
+      ∙ turned-again (twos 4) (bits 4) 4 s 80 n bytes (omega arith) bits-twos4 in
       let depths : columnBytes 4 (columnAt (λ v. v) 4 s (depthsAt s) n) ≡ take (4 * n) (drop (80 + 4 * n) s)
-            = ap (λ (at : ℕ). columnBytes 4 (columnAt (λ v. v) 4 s at n)) (h .depths) ∙ column-again 4 s (80 + 4 * n) n bytes (omega arith) in
+      = ap (λ (at : ℕ). columnBytes 4 (columnAt (λ v. v) 4 s at n)) (h .depths) ∙ column-again 4 s (80 + 4 * n) n bytes (omega arith) in
       let discharges : columnBytes 8 (map (bits 8) (columnAt (twos 8) 8 s (dischargesAt s) n)) ≡ take (8 * n) (drop (80 + 8 * n) s)
-            = ap (λ (at : ℕ). columnBytes 8 (map (bits 8) (columnAt (twos 8) 8 s at n))) (h .discharges)
-              ∙ turned-again (twos 8) (bits 8) 8 s (80 + 8 * n) n bytes (omega arith) bits-twos8 in
+      = ap (λ (at : ℕ). columnBytes 8 (map (bits 8) (columnAt (twos 8) 8 s at n))) (h .discharges)
+      ∙ turned-again (twos 8) (bits 8) 8 s (80 + 8 * n) n bytes (omega arith) bits-twos8 in
       let masses : columnBytes 8 (columnAt (λ v. v) 8 s (massesAt s) n) ≡ take (8 * n) (drop (80 + 16 * n) s)
-            = ap (λ (at : ℕ). columnBytes 8 (columnAt (λ v. v) 8 s at n)) (h .masses) ∙ column-again 8 s (80 + 16 * n) n bytes (omega arith) in
+      = ap (λ (at : ℕ). columnBytes 8 (columnAt (λ v. v) 8 s at n)) (h .masses) ∙ column-again 8 s (80 + 16 * n) n bytes (omega arith) in
       pieces n _ _ _ _ _ l (ap (λ (k : ℕ). headerBytes k X (endsOf s)) cells-are ∙ header-again n X h (omega arith) f) beds depths discharges masses
 
 -- ---- its record is written
@@ -552,8 +535,8 @@ written-again sheet l out bytes order opened room =
     let k = opened-sound sheet _ _ _ _ _ _ p in
     let long = opened-long sheet (g 1) in
     let fits : writeRefusal r (length out) ≡ Pass
-          = write-passes r (length out) (stands r (r .ends) k (k .boundaries)) (opened-settled sheet)
-            (omega (arith, room, ap sheetSize (cells-are sheet b), long)) in
+    = write-passes r (length out) (stands r (r .ends) k (k .boundaries)) (opened-settled sheet)
+    (omega (arith, room, ap sheetSize (cells-are sheet b), long)) in
     let same : opening sheet l .reach ≡ r = ap (λ (o : Outcome). o .reach) (accepted sheet l p) in
     let again : sheetBytes r ≡ sheet = sheet-again sheet b (opened-headed sheet (g 0) (g 1) order) long (g 5) in
     subst (λ (x : Reach). (writeRefusal x (length out) ≡ Pass) × (outputAfter x out ≡ written sheet out)) (sym same)
