@@ -14,6 +14,7 @@ ghost use Rattle.transport.specs.Calls.{setBoundaries, transport as transportOf
 ghost use Rattle.stepping.specs.GreatestStep.{greatest};
 ghost use Rattle.stepping.specs.Step.{StepCameTo};
 ghost use Rattle.sheet.specs.Opening.{lent, opening, OpenCameTo};
+ghost use Rattle.writing.specs.Writing.{WriteCameTo};
 ghost use Rattle.text.specs.Text.{Put};
 ghost use Rattle.program.specs.Program.{programText};
 use flux::crossing::crossing_of;
@@ -32,6 +33,8 @@ use sheet::opening::open_sheet;
 use stepping::Greatest;
 use stepping::step::Stepped;
 use transport::Answer;
+use writing::write::Written;
+use writing::write::write_sheet;
 
 #[no_mangle]
 pub extern "C" fn harness_wave_speed(h: u64) -> u64
@@ -174,6 +177,25 @@ pub extern "C" fn harness_open(
     ensures { λ r. ⌜ OpenCameTo (opening (now (s .entry)) (lent (now (z .entry)) (now (h .entry)) (now (q .entry)) (now (m .entry)) (now (b .entry)) (now (c .entry)))) r (now (z .exit)) (now (h .exit)) (now (q .exit)) (now (m .exit)) (now (b .exit)) (now (c .exit)) ⌝ }
 {
     open_sheet(s, z, h, q, m, b, c)
+}
+
+#[no_mangle]
+pub extern "C" fn harness_write(
+    z: &[i64],
+    h: &[u64],
+    q: &[i64],
+    m: &[u64],
+    b: &[u64],
+    c: &[i64],
+    x: u64,
+    held: Pair,
+    ledger: Ledger,
+    out: &mut [u8],
+) -> Written
+    ensures { λ r. ⌜ WriteCameTo (reachOf (now (z .entry)) (now (h .entry)) (now (q .entry)) (now (m .entry)) (now (b .entry)) (now (c .entry)) x (held .ends) ledger) (now (out .entry)) r (now (out .exit)) ⌝ }
+{
+    let ends = held.ends;
+    write_sheet(z, h, q, m, b, c, x, ends, ledger, out)
 }
 
 // The program's text at the start of `out`, and its length

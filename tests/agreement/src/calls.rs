@@ -1,8 +1,8 @@
-//! The calls on a record, opening and the program, in the types of the second implementation. They require nothing.
+//! The calls on a record, opening, the program and the driver, in the types of the second implementation. They require nothing.
 
 use reference::random::Record;
 use reference::record::{Answer, Book, Columns, End, Totals};
-use reference::{GreatestAnswer, OpenAnswer, StepAnswer};
+use reference::{GreatestAnswer, OpenAnswer, StepAnswer, WriteAnswer};
 
 #[repr(C)]
 #[derive(Clone, Copy)]
@@ -140,6 +140,25 @@ extern "C" {
         ledger: Ledger,
         t: u64,
     ) -> RawStepped;
+    fn harness_write(
+        z: *const i64,
+        zn: usize,
+        h: *const u64,
+        hn: usize,
+        q: *const i64,
+        qn: usize,
+        m: *const u64,
+        mn: usize,
+        b: *const u64,
+        bn: usize,
+        c: *const i64,
+        cn: usize,
+        x: u64,
+        held: Pair,
+        ledger: Ledger,
+        out: *mut u8,
+        outn: usize,
+    ) -> RawAnswer;
     fn harness_open(
         s: *const u8,
         sn: usize,
@@ -278,6 +297,23 @@ pub fn step(r: &mut Record, t: u64) -> StepAnswer {
         ends: s.ends.map(end),
         book: book(s.ledger),
         settled: s.settled,
+    }
+}
+
+/// Writes the sheet of a settled record at the start of `out`.
+pub fn write(r: &Record, out: &mut [u8]) -> WriteAnswer {
+    let w = call!(
+        harness_write,
+        r,
+        as_ptr,
+        as_ptr,
+        out.as_mut_ptr(),
+        out.len()
+    );
+    WriteAnswer {
+        refusal: w.refusal,
+        ends: w.ends.map(end),
+        book: book(w.ledger),
     }
 }
 
