@@ -15,8 +15,11 @@ ghost use Rattle.stepping.specs.GreatestStep.{greatest};
 ghost use Rattle.stepping.specs.Step.{StepCameTo};
 ghost use Rattle.sheet.specs.Opening.{lent, opening, OpenCameTo};
 ghost use Rattle.writing.specs.Writing.{WriteCameTo};
+ghost use Rattle.driver.specs.Replay.{ReplayCameTo};
 ghost use Rattle.text.specs.Text.{Put};
 ghost use Rattle.program.specs.Program.{programText};
+use driver::Replayed;
+use driver::replay;
 use flux::crossing::crossing_of;
 use flux::crossing::still_thrust;
 use flux::interface::reduced_depth;
@@ -196,6 +199,25 @@ pub extern "C" fn harness_write(
 {
     let ends = held.ends;
     write_sheet(z, h, q, m, b, c, x, ends, ledger, out)
+}
+
+#[no_mangle]
+pub extern "C" fn harness_replay(
+    sheet: &[u8],
+    words: &[u64],
+    sheets: &[u8],
+    z: &mut [i64],
+    h: &mut [u64],
+    q: &mut [i64],
+    m: &mut [u64],
+    b: &mut [u64],
+    c: &mut [i64],
+    out: &mut [u8],
+    answers: &mut [u64],
+) -> Replayed
+    ensures { λ r. ⌜ ReplayCameTo (now (sheet .entry)) (now (words .entry)) (now (sheets .entry)) (lent (now (z .entry)) (now (h .entry)) (now (q .entry)) (now (m .entry)) (now (b .entry)) (now (c .entry))) (now (out .entry)) (now (answers .entry)) r (now (z .exit)) (now (h .exit)) (now (q .exit)) (now (m .exit)) (now (b .exit)) (now (c .exit)) (now (out .exit)) (now (answers .exit)) ⌝ }
+{
+    replay(sheet, words, sheets, z, h, q, m, b, c, out, answers)
 }
 
 // The program's text at the start of `out`, and its length

@@ -25,7 +25,7 @@ pub fn read_number(s: &[u8], at: usize, w: usize) -> u64
 }
 
 // Two's complement in a range of 2·half numbers
-fn twos_in(half: u64, v: u64) -> i64
+pub fn twos_in(half: u64, v: u64) -> i64
     requires { ⌜ (half ≤ 9_223_372_036_854_775_808) × (v < 2 * half) ⌝ }
     ensures { λ r. ⌜ r ≡ twosIn (2 * half) v ⌝ }
 {

@@ -73,6 +73,7 @@ start-kept : (sheet : List ℕ) → Kept (start sheet)
 unfolding start sheetRecord waterHeld waterIn waterOut massHeld massIn massOut Each Accounts
 start-kept sheet = record {
   holds = record {
+    own = refl;
     water = omega arith;
     mass = omega arith;
     ledger = refl;
@@ -123,6 +124,7 @@ module _ (T : Tally) (K : Kept T) where
   step-kept t k c =
       let e = sums-step k t in record {
         holds = record {
+          own = refl;
           ledger = refl;
           water = water-on (stepped (T .own) t) _ e (step-water-balanced (T .own) k t c);
           mass = mass-on (stepped (T .own) t) _ e (step-mass-balanced (T .own) k t);
@@ -143,6 +145,7 @@ module _ (T : Tally) (K : Kept T) where
   setting-kept es k =
       let e = sums-mass k es in record {
         holds = record {
+          own = refl;
           ledger = refl;
           water = water-on (transported (T .own) es) _ e (settled-water es);
           mass = mass-on (transported (T .own) es) _ e (transported-balanced (T .own) k es);
@@ -160,6 +163,7 @@ module _ (T : Tally) (K : Kept T) where
       let es = T .own .ends in
       let e = sums-mass k es in record {
         holds = record {
+          own = refl;
           ledger = refl;
           water = water-on (transported (T .own) es) _ e (settled-water es);
           mass = mass-on (transported (T .own) es) _ e (transported-balanced (T .own) k es);

@@ -28,6 +28,8 @@ unfoldable pub Accounts : (held opened gained lost : ℕ) → Type 0
 Accounts held opened gained lost = held + lost ≡ opened + gained
 
 pub record Holds (T : Tally) (s : Reach) : Type 0 where
+  -- the record is the tally's own, so the tally's steps and settlings are those of the program
+  pub own : s ≡ T .own
   -- 'the water held equals the opening water plus what the ends let in less what they let out, added up from the steps themselves'
   pub water : Accounts (waterHeld s) (waterHeld (T .opening)) (waterIn (T .sums)) (waterOut (T .sums))
   -- 'and the nutrient likewise from the settlings'

@@ -13,7 +13,7 @@ use Rattle.tally.specs.Tally.{start, run}
 use Rattle.tally.specs.Holds.{Holds}
 use Rattle.tally.proofs.CallLaws.{step-next, settle-next, setting-next, greatest-next, write-next, open-next, open-number}
 use Rattle.tally.proofs.TallyLaws.{of-definitions}
-use Rattle.trace.specs.Trace.{given, Opens, Link, Chain, done, then, Demand3}
+use Rattle.trace.specs.Trace.{given, Opens, Link, Chain, done, then, Demand3, AsksNothing}
 
 -- each contract gives the record that `next` says, of the record that was given; and that was s
 link : (s : Reach) (c : Call) (s' : Reach) → Link s c s' → s' ≡ next s c
@@ -44,3 +44,13 @@ pub demand-3 : Demand3
 demand-3 sheet cs before opened after first e rest =
     subst (Holds (run (start sheet) cs)) (sym (chain rest ∙ ap (λ (x : Reach). final x cs) (link before (reopen sheet) opened first)))
     (of-definitions sheet before cs (accepted first e))
+
+pub asks-nothing : AsksNothing
+asks-nothing = record {
+  step = λ κs l X es k t. tt;
+  settling = λ κs l X es k. tt;
+  end-setting = λ κs l X es k new. tt;
+  greatest-step = λ κs l X es k. tt;
+  write = λ κs l X es k out. tt;
+  opening = λ κs sheet l. tt;
+}

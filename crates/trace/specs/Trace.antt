@@ -9,6 +9,7 @@ use lib.IntN.{ℤ}
 use lib.ListN.{length}
 use Rattle.reach.specs.Reach.{Reach, reachOf}
 use Rattle.reach.specs.declared.boundary.Boundary.{Boundary}
+use Rattle.reach.specs.declared.ledger.Ledger.{Ledger}
 use Rattle.transport.specs.declared.Answer.{Answer}
 use Rattle.stepping.specs.declared.Greatest.{Greatest}
 use Rattle.stepping.specs.declared.step.Stepped.{Stepped}
@@ -157,3 +158,19 @@ Demand3 =
     first .r .refusal ≡ 0 →
     Chain opened cs after →
     Holds (run (start sheet) cs) after
+
+-- Demand 1, 'every .. within document 01's limits is accepted': no call asks anything of what it is given (`Pre`). With a condition of its
+-- own, a call's contract would be met by a function that was never made for the rest.
+pub record AsksNothing : Type 0 where
+  pub step : (κs : Lfts 6) (l : Lent) (X : ℕ) (es : List Boundary) (k : Ledger) (t : ℕ)
+      → step-reads.Pre κs (l .bed, (l .depth, (l .discharge, (l .mass, (l .base, (l .carried, (X, (es, (k, (t, tt))))))))))
+  pub settling : (κs : Lfts 6) (l : Lent) (X : ℕ) (es : List Boundary) (k : Ledger)
+      → transport-reads.Pre κs (l .bed, (l .depth, (l .discharge, (l .mass, (l .base, (l .carried, (X, (es, (k, tt)))))))))
+  pub end-setting : (κs : Lfts 6) (l : Lent) (X : ℕ) (es : List Boundary) (k : Ledger) (new : List Boundary)
+      → setting-reads.Pre κs (l .bed, (l .depth, (l .discharge, (l .mass, (l .base, (l .carried, (X, (es, (k, (new, tt))))))))))
+  pub greatest-step : (κs : Lfts 6) (l : Lent) (X : ℕ) (es : List Boundary) (k : Ledger)
+      → greatest-reads.Pre κs (l .bed, (l .depth, (l .discharge, (l .mass, (l .base, (l .carried, (X, (es, (k, tt)))))))))
+  pub write : (κs : Lfts 7) (l : Lent) (X : ℕ) (es : List Boundary) (k : Ledger) (out : RefT (List ℕ))
+      → writing-reads.Pre κs (l .bed, (l .depth, (l .discharge, (l .mass, (l .base, (l .carried, (X, (es, (k, (out, tt))))))))))
+  pub opening : (κs : Lfts 7) (sheet : RefT (List ℕ)) (l : Lent)
+      → opening-reads.Pre κs (sheet, (l .bed, (l .depth, (l .discharge, (l .mass, (l .base, (l .carried, tt)))))))

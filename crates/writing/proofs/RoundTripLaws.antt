@@ -1,16 +1,16 @@
 -- The round trip: what is written reads back, and what was read is written again. Assumes nothing.
 use mathlib.Core.Path.{_≡_, refl, sym, ap, ap₂, _∙_, subst}
-use mathlib.Core.Bool.{Bool, true, false, cond, _||_}
+use mathlib.Core.Bool.{Bool, true, false, cond, _&&_, _||_, true≢false}
 use mathlib.Core.List.{List, [], _∷_, _++_, map, append-assoc, append-nil}
 use Prim.Native.Nat.{ℕ, _+_, _*_, _^_, _≤_, _<_}
 use native.Mathlib.Omega.{arith}
-use borrow.Author.Tests.{eqb-true, le-leb, eq-eqb}
+use borrow.Author.Tests.{eqb-true, le-leb, leb-true, eq-eqb}
 use lib.Dec.{leb, eqb}
 use lib.IntN.{ℤ, pos, negsuc, natAbs}
 use lib.ListN.{length, getD, take, drop, replicate, length-append, length-map, length-replicate, getD-replicate, List·getD-map}
 use lib.Seq.{ext-getD, take-at, take-all}
 use Rattle.numbers.specs.Index.{tabulate}
-use Rattle.numbers.proofs.IndexLaws.{and-both, all-of, all-at, all-below, on, only, length-tabulate}
+use Rattle.numbers.proofs.IndexLaws.{and-both, and-left, and-right, all-of, all-at, all-below, on, only, length-tabulate}
 use Rattle.flux.specs.Limits.{cellLengthMost}
 use Rattle.reach.specs.Limits.{cellsMost, wall, openEnd, fed}
 use Rattle.reach.specs.Reach.{Reach, reachOf, cells, leftEnd, rightEnd, bedAt, depthAt, dischargeAt, massAt, baseAt, carriedAt}
@@ -22,7 +22,7 @@ use Rattle.reach.specs.declared.refusal.Check.the-variants.{Pass, Refused}
 use Rattle.reach.proofs.GroundsLaws.{stood, go-on, further, passed-first, numbered, refused-number}
 use Rattle.reach.proofs.Sound.{boundary-sound, CarriedSound, Sound, sound, stands}
 use Rattle.sheet.specs.Bytes.{numberAt, twos, columnAt}
-use Rattle.sheet.specs.Header.{sheetSize, editionOf, lengthOf, countOf, cellLengthOf, bedsAt, depthsAt, dischargesAt, massesAt, boundaryAt, endsOf, editionFits, sizeFits, span, inside, apart, columnsClear, spansOf}
+use Rattle.sheet.specs.Header.{sheetSize, editionOf, lengthOf, countOf, cellLengthOf, bedsAt, depthsAt, dischargesAt, massesAt, boundaryAt, endsOf, editionFits, sizeFits, Span, span, inside, apart, columnsClear, spansOf}
 use Rattle.sheet.specs.Opening.{emptyLedger, sheetRecord, lentFit, openGrounds, opening}
 use Rattle.sheet.proofs.HeaderLaws.{four-clear}
 use Rattle.sheet.proofs.OpeningLaws.{accepted, opened-sound}
@@ -507,7 +507,63 @@ module _ (s : List ℕ) (l : Reach) where
       go Pass p z = p
       go (Refused n) p z = absurd (omega (arith, z, refused-number grounds n all-numbered p))
 
-opened-headed : (s : List ℕ) → editionFits s ≡ true → sizeFits s ≡ true → InWritersOrder s → Headed s (countOf s) (cellLengthOf s) (endsOf s)
+-- columns that are clear of each other lie one behind the other by their starts
+before : (a b : Span) → apart a b ≡ true → a .start < b .start → a .start + a .size ≤ b .start
+unfolding apart
+before a b e l = go (leb (a .start + a .size) (b .start)) refl (leb (b .start + b .size) (a .start)) refl e
+  where
+    go : (x : Bool) → leb (a .start + a .size) (b .start) ≡ x → (y : Bool) → leb (b .start + b .size) (a .start) ≡ y → (x || y) ≡ true
+        → a .start + a .size ≤ b .start
+    go true p y q f = leb-true _ _ p
+    go false p true q f = absurd (omega (arith, l, leb-true (b .start + b .size) (a .start) q))
+    go false p false q f = absurd (true≢false (sym f))
+
+-- behind the header and before the end
+behind : (end : ℕ) (c : Span) → inside end c ≡ true → (80 ≤ c .start) × (c .start + c .size ≤ end)
+unfolding inside
+behind end c e = (leb-true _ _ (and-left (leb 80 (c .start)) (leb (c .start + c .size) end) e), leb-true _ _ (and-right (leb 80 (c .start)) (leb (c .start + c .size) end) e))
+
+-- of four clear columns: the first and the last lie inside, and each is apart from the next
+clear-parts : (ia ab ac ad ib bc bd ic cd id : Bool) → ((ia && (ab && (ac && ad))) && ((ib && (bc && bd)) && ((ic && cd) && id))) ≡ true
+    → (ia ≡ true) × (ab ≡ true) × (bc ≡ true) × (cd ≡ true) × (id ≡ true)
+clear-parts ia ab ac ad ib bc bd ic cd id e =
+    let first = and-left (ia && (ab && (ac && ad))) ((ib && (bc && bd)) && ((ic && cd) && id)) e in
+    let more = and-right (ia && (ab && (ac && ad))) ((ib && (bc && bd)) && ((ic && cd) && id)) e in
+    let second = and-left (ib && (bc && bd)) ((ic && cd) && id) more in
+    let rest = and-right (ib && (bc && bd)) ((ic && cd) && id) more in
+    (and-left ia _ first, and-left ab _ (and-right ia (ab && (ac && ad)) first), and-left bc bd (and-right ib (bc && bd) second), and-right ic cd (and-left (ic && cd) id rest), and-right (ic && cd) id rest)
+
+-- where the columns of a sheet stand that opens and has them in the writer's order: there is no byte to spare
+pub record InPlace (s : List ℕ) : Type 0 where
+  pub beds : bedsAt s ≡ bedsFrom (countOf s)
+  pub depths : depthsAt s ≡ depthsFrom (countOf s)
+  pub discharges : dischargesAt s ≡ dischargesFrom (countOf s)
+  pub masses : massesAt s ≡ massesFrom (countOf s)
+
+pub in-place : (s : List ℕ) → length s ≡ sheetSize (countOf s) → columnsClear (length s) (spansOf s) ≡ true → InWritersOrder s → InPlace s
+unfolding spansOf sheetSize
+in-place s long e o =
+    let n = countOf s in
+    let end = length s in
+    let a = span (bedsAt s) (4 * n) in
+    let b = span (depthsAt s) (4 * n) in
+    let c = span (dischargesAt s) (8 * n) in
+    let d = span (massesAt s) (8 * n) in
+    let k = clear-parts (inside end a) (apart a b) (apart a c) (apart a d) (inside end b) (apart b c) (apart b d) (inside end c) (apart c d) (inside end d)
+    (sym (four-clear end a b c d) ∙ e) in
+    let i = behind end a (k .0) in
+    let j = behind end d (k .4) in
+    let ab = before a b (k .1) (o .beds-first) in
+    let bc = before b c (k .2) (o .depths-next) in
+    let cd = before c d (k .3) (o .masses-last) in
+    record {
+      beds = omega (arith, long, i, j, ab, bc, cd);
+      depths = omega (arith, long, i, j, ab, bc, cd);
+      discharges = omega (arith, long, i, j, ab, bc, cd);
+      masses = omega (arith, long, i, j, ab, bc, cd);
+    }
+
+opened-headed : (s : List ℕ) → editionFits s ≡ true → sizeFits s ≡ true → InPlace s → Headed s (countOf s) (cellLengthOf s) (endsOf s)
 unfolding editionFits sizeFits endsOf
 opened-headed s e f o = record {
   edition = eqb-true _ _ (all-of _ e 1);
@@ -538,6 +594,6 @@ written-again sheet l out bytes order opened room =
     = write-passes r (length out) (stands r (r .ends) k (k .boundaries)) (opened-settled sheet)
     (omega (arith, room, ap sheetSize (cells-are sheet b), long)) in
     let same : opening sheet l .reach ≡ r = ap (λ (o : Outcome). o .reach) (accepted sheet l p) in
-    let again : sheetBytes r ≡ sheet = sheet-again sheet b (opened-headed sheet (g 0) (g 1) order) long (g 5) in
+    let again : sheetBytes r ≡ sheet = sheet-again sheet b (opened-headed sheet (g 0) (g 1) (in-place sheet long (g 2) order)) long (g 5) in
     subst (λ (x : Reach). (writeRefusal x (length out) ≡ Pass) × (outputAfter x out ≡ written sheet out)) (sym same)
     (fits, output-passed r out fits ∙ ap (λ (t : List ℕ). written t out) again)

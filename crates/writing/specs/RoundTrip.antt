@@ -8,10 +8,10 @@ use Rattle.reach.specs.Reach.{Reach, cells, reachOf}
 use Rattle.reach.specs.Outcome.{Outcome}
 use Rattle.reach.specs.declared.refusal.Check.{Check}
 use Rattle.reach.specs.declared.refusal.Check.the-variants.{Pass}
-use Rattle.sheet.specs.Header.{countOf, sheetSize, bedsAt, depthsAt, dischargesAt, massesAt}
+use Rattle.sheet.specs.Header.{sheetSize, bedsAt, depthsAt, dischargesAt, massesAt}
 use Rattle.sheet.specs.Opening.{emptyLedger, opening}
 use Rattle.writing.specs.Bytes.{written}
-use Rattle.writing.specs.Writing.{bedsFrom, depthsFrom, dischargesFrom, massesFrom, writeRefusal, outputAfter}
+use Rattle.writing.specs.Writing.{writeRefusal, outputAfter}
 
 -- columns lent to an opening have the lengths that n cells want
 pub record LentFor (n : ℕ) (l : Reach) : Type 0 where
@@ -36,12 +36,11 @@ ReadsBack =
     LentFor (cells s) l →
     opening (take (sheetSize (cells s)) (outputAfter s out)) l ≡ record { refusal = 0; reach = withEmptyLedger s }
 
--- the sheet has its columns in the writer's order
+-- the sheet has its columns in the writer's order; where it opens there is no room between them (`in-place`)
 pub record InWritersOrder (sheet : List ℕ) : Type 0 where
-  pub beds : bedsAt sheet ≡ bedsFrom (countOf sheet)
-  pub depths : depthsAt sheet ≡ depthsFrom (countOf sheet)
-  pub discharges : dischargesAt sheet ≡ dischargesFrom (countOf sheet)
-  pub masses : massesAt sheet ≡ massesFrom (countOf sheet)
+  pub beds-first : bedsAt sheet < depthsAt sheet
+  pub depths-next : depthsAt sheet < dischargesAt sheet
+  pub masses-last : dischargesAt sheet < massesAt sheet
 
 -- a sheet of bytes in the writer's order that opens is written again byte for byte, header and ends included, at the start of any output
 -- that has room for it

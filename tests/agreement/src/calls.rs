@@ -175,6 +175,30 @@ extern "C" {
         c: *mut i64,
         cn: usize,
     ) -> RawOpened;
+    fn harness_replay(
+        sheet: *const u8,
+        sheetn: usize,
+        words: *const u64,
+        wordsn: usize,
+        sheets: *const u8,
+        sheetsn: usize,
+        z: *mut i64,
+        zn: usize,
+        h: *mut u64,
+        hn: usize,
+        q: *mut i64,
+        qn: usize,
+        m: *mut u64,
+        mn: usize,
+        b: *mut u64,
+        bn: usize,
+        c: *mut i64,
+        cn: usize,
+        out: *mut u8,
+        outn: usize,
+        answers: *mut u64,
+        answersn: usize,
+    ) -> RawOpened;
     fn harness_program(input: *const u8, inputn: usize, out: *mut u8, outn: usize) -> usize;
 }
 
@@ -317,40 +341,72 @@ pub fn write(r: &Record, out: &mut [u8]) -> WriteAnswer {
     }
 }
 
-/// Fills the lent columns from a sheet.
-pub fn open(sheet: &[u8], columns: &mut Columns) -> OpenAnswer {
-    let Columns {
-        bed,
-        depth,
-        discharge,
-        nutrient,
-        base,
-        carried,
-    } = columns;
-    let o = unsafe {
-        harness_open(
-            sheet.as_ptr(),
-            sheet.len(),
-            bed.as_mut_ptr(),
-            bed.len(),
-            depth.as_mut_ptr(),
-            depth.len(),
-            discharge.as_mut_ptr(),
-            discharge.len(),
-            nutrient.as_mut_ptr(),
-            nutrient.len(),
-            base.as_mut_ptr(),
-            base.len(),
-            carried.as_mut_ptr(),
-            carried.len(),
-        )
-    };
+/// The columns as pointers and lengths, all of them to write, among the other arguments.
+macro_rules! lend {
+    ($function:ident, $columns:expr, [$($before:expr),*], [$($after:expr),*]) => {{
+        let Columns { bed, depth, discharge, nutrient, base, carried } = $columns;
+        unsafe {
+            $function(
+                $($before,)*
+                bed.as_mut_ptr(), bed.len(),
+                depth.as_mut_ptr(), depth.len(),
+                discharge.as_mut_ptr(), discharge.len(),
+                nutrient.as_mut_ptr(), nutrient.len(),
+                base.as_mut_ptr(), base.len(),
+                carried.as_mut_ptr(), carried.len(),
+                $($after),*
+            )
+        }
+    }};
+}
+
+fn opened(o: RawOpened) -> OpenAnswer {
     OpenAnswer {
         refusal: o.refusal,
         x: o.cell_length.try_into().expect("a cell length"),
         ends: o.ends.map(end),
         book: book(o.ledger),
     }
+}
+
+/// Fills the lent columns from a sheet.
+pub fn open(sheet: &[u8], columns: &mut Columns) -> OpenAnswer {
+    opened(lend!(
+        harness_open,
+        columns,
+        [sheet.as_ptr(), sheet.len()],
+        []
+    ))
+}
+
+/// Opens the first sheet and plays the calls of the words. The answer is the first opening's number, and X, ends and book as the last call
+/// left them.
+pub fn replay(
+    sheet: &[u8],
+    words: &[u64],
+    sheets: &[u8],
+    columns: &mut Columns,
+    out: &mut [u8],
+    answers: &mut [u64],
+) -> OpenAnswer {
+    opened(lend!(
+        harness_replay,
+        columns,
+        [
+            sheet.as_ptr(),
+            sheet.len(),
+            words.as_ptr(),
+            words.len(),
+            sheets.as_ptr(),
+            sheets.len()
+        ],
+        [
+            out.as_mut_ptr(),
+            out.len(),
+            answers.as_mut_ptr(),
+            answers.len()
+        ]
+    ))
 }
 
 /// Room for the text of any input, and a byte that no text holds.

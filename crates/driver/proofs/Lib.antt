@@ -1,0 +1,2 @@
+pub mod DriverLaws
+pub mod EveryLaws

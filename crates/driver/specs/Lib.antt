@@ -1,0 +1,3 @@
+pub mod Script
+pub mod Replay
+pub mod Every

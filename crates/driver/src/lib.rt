@@ -1,0 +1,166 @@
+// A driver that plays a list of calls, encoded in lent memory, through the functions themselves: demand 3 as a program.
+pub mod call;
+pub mod every;
+pub mod words;
+
+ghost use mathlib.Core.Path.{_≡_};
+ghost use Prim.Native.Nat.{_≤_};
+ghost use lib.ListN.{length, set};
+ghost use Rattle.reach.specs.Reach.{reachOf};
+ghost use Rattle.sheet.specs.Opening.{lent};
+ghost use Rattle.driver.specs.Script.{script};
+ghost use Rattle.driver.specs.Replay.{flag, noted, world, playedFrom, ReplayCameTo};
+use call::play_call;
+use reach::boundary::Boundary;
+use reach::ledger::Ledger;
+use sheet::opening::open_sheet;
+
+// What one call answered, and X, ends and ledger as it left them
+pub struct Played {
+    pub refusal: u32,
+    pub settled: bool,
+    pub time: u64,
+    pub place: usize,
+    pub cell_length: u64,
+    pub ends: [Boundary; 2],
+    pub ledger: Ledger,
+}
+
+// 0, or the number of the ground that refused the first opening; X, ends and ledger as the last call left them
+#[repr(C)]
+pub struct Replayed {
+    pub refusal: u32,
+    pub cell_length: u64,
+    pub ends: [Boundary; 2],
+    pub ledger: Ledger,
+}
+
+// Past the end nothing is noted.
+fn put(answers: &mut [u64], at: usize, v: u64)
+    ensures { λ _. ⌜ now (answers .exit) ≡ set (now (answers .entry)) at v ⌝ }
+{
+    if at < answers.len() {
+        answers[at] = v;
+    }
+}
+
+fn flag_of(settled: bool) -> u64
+    ensures { λ r. ⌜ r ≡ flag settled ⌝ }
+{
+    if settled {
+        return 1;
+    }
+    0
+}
+
+// Four words an answer
+fn note(answers: &mut [u64], j: usize, refusal: u32, settled: bool, time: u64, place: usize)
+    requires { ⌜ j ≤ 1_000_000_000_000_000_000 ⌝ }
+    ensures { λ _. ⌜ now (answers .exit) ≡ noted (now (answers .entry)) j refusal (flag settled) time place ⌝ }
+{
+    let at = 4 * j;
+    put(answers, at, refusal as u64);
+    put(answers, at + 1, flag_of(settled));
+    put(answers, at + 2, time);
+    put(answers, at + 3, place as u64);
+}
+
+// Plays the calls of the words, thirteen a call, from any record on.
+pub fn resume(
+    words: &[u64],
+    sheets: &[u8],
+    z: &mut [i64],
+    h: &mut [u64],
+    q: &mut [i64],
+    m: &mut [u64],
+    b: &mut [u64],
+    c: &mut [i64],
+    x: u64,
+    ends: [Boundary; 2],
+    ledger: Ledger,
+    out: &mut [u8],
+    answers: &mut [u64],
+) -> Replayed
+    ensures { λ r. ⌜ world (reachOf (now (z .exit)) (now (h .exit)) (now (q .exit)) (now (m .exit)) (now (b .exit)) (now (c .exit)) (r .«cell_length») (r .ends) (r .ledger)) (now (out .exit)) (now (answers .exit)) ≡ playedFrom (world (reachOf (now (z .entry)) (now (h .entry)) (now (q .entry)) (now (m .entry)) (now (b .entry)) (now (c .entry)) x ends ledger) (now (out .entry)) (now (answers .entry))) 0 (script (now (words .entry)) (now (sheets .entry)) (length (now (out .entry)))) ⌝ }
+    ensures { λ r. ⌜ r .refusal ≡ 0 ⌝ }
+{
+    let n = words.len() / 13;
+    let mut cell_length = x;
+    let mut pair = ends;
+    let mut held = ledger;
+    let mut j = 0;
+    while j < n {
+        let before = pair;
+        let p = play_call(
+            words,
+            13 * j,
+            sheets,
+            z,
+            h,
+            q,
+            m,
+            b,
+            c,
+            cell_length,
+            before,
+            held,
+            out,
+        );
+        note(answers, j, p.refusal, p.settled, p.time, p.place);
+        let after = p.ends;
+        cell_length = p.cell_length;
+        pair = after;
+        held = p.ledger;
+        j += 1;
+    }
+    Replayed {
+        refusal: 0,
+        cell_length,
+        ends: pair,
+        ledger: held,
+    }
+}
+
+// Opens the sheet and plays the calls of the words: demand 3.
+pub fn replay(
+    sheet: &[u8],
+    words: &[u64],
+    sheets: &[u8],
+    z: &mut [i64],
+    h: &mut [u64],
+    q: &mut [i64],
+    m: &mut [u64],
+    b: &mut [u64],
+    c: &mut [i64],
+    out: &mut [u8],
+    answers: &mut [u64],
+) -> Replayed
+    ensures { λ r. ⌜ ReplayCameTo (now (sheet .entry)) (now (words .entry)) (now (sheets .entry)) (lent (now (z .entry)) (now (h .entry)) (now (q .entry)) (now (m .entry)) (now (b .entry)) (now (c .entry))) (now (out .entry)) (now (answers .entry)) r (now (z .exit)) (now (h .exit)) (now (q .exit)) (now (m .exit)) (now (b .exit)) (now (c .exit)) (now (out .exit)) (now (answers .exit)) ⌝ }
+{
+    let o = open_sheet(sheet, z, h, q, m, b, c);
+    let ends = o.ends;
+    let ledger = o.ledger;
+    if o.refusal != 0 {
+        return Replayed {
+            refusal: o.refusal,
+            cell_length: o.cell_length,
+            ends,
+            ledger,
+        };
+    }
+    resume(
+        words,
+        sheets,
+        z,
+        h,
+        q,
+        m,
+        b,
+        c,
+        o.cell_length,
+        ends,
+        ledger,
+        out,
+        answers,
+    )
+}
