@@ -27,7 +27,7 @@ use Rattle.tally.specs.Tally.{start, run}
 use Rattle.tally.specs.Holds.{Holds}
 use Rattle.tally.proofs.CallLaws.{step-next, settle-next, setting-next, greatest-next, write-next, open-next, open-number, by-opening}
 use Rattle.tally.proofs.TallyLaws.{of-definitions}
-use Rattle.driver.specs.Script.{part, callOf, callAt, callsFrom, script}
+use Rattle.script.specs.Script.{part, callOf, callAt, callsFrom, script}
 use Rattle.driver.specs.Replay.{cameTo, Plays, flag, noted, World, world, playedOne, playedFrom, ReplayCameTo}
 use Rattle.driver.specs.declared.Played.{Played}
 use Rattle.driver.specs.declared.Replayed.{Replayed}

@@ -1,2 +1,1 @@
 pub mod DriverLaws
-pub mod EveryLaws

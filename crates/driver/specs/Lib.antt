@@ -1,3 +1,1 @@
-pub mod Script
 pub mod Replay
-pub mod Every

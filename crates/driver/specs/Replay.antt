@@ -16,7 +16,7 @@ use Rattle.writing.specs.Writing.{outputAfter}
 use Rattle.tally.specs.Call.{Call, stepBy, settle, setEnds, askGreatest, writeInto, reopen, refusalOf, next}
 use Rattle.tally.specs.Tally.{start, run}
 use Rattle.tally.specs.Holds.{Holds}
-use Rattle.driver.specs.Script.{callAt, script}
+use Rattle.script.specs.Script.{callAt, script}
 use Rattle.driver.specs.declared.Played.{Played}
 use Rattle.driver.specs.declared.Replayed.{Replayed}
 

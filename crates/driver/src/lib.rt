@@ -1,14 +1,12 @@
 // A driver that plays a list of calls, encoded in lent memory, through the functions themselves: demand 3 as a program.
 pub mod call;
-pub mod every;
-pub mod words;
 
 ghost use mathlib.Core.Path.{_≡_};
 ghost use Prim.Native.Nat.{_≤_};
 ghost use lib.ListN.{length, set};
 ghost use Rattle.reach.specs.Reach.{reachOf};
 ghost use Rattle.sheet.specs.Opening.{lent};
-ghost use Rattle.driver.specs.Script.{script};
+ghost use Rattle.script.specs.Script.{script};
 ghost use Rattle.driver.specs.Replay.{flag, noted, world, playedFrom, ReplayCameTo};
 use call::play_call;
 use reach::boundary::Boundary;

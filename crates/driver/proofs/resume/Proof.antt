@@ -5,7 +5,7 @@ use native.Mathlib.Omega.{arith}
 use denote.Ref.{now}
 use lib.ListN.{length}
 use Rattle.reach.specs.Reach.{Reach, reachOf}
-use Rattle.driver.specs.Script.{script}
+use Rattle.script.specs.Script.{script}
 use Rattle.driver.specs.Replay.{world, playedFrom}
 use Rattle.driver.proofs.DriverLaws.{playedOn, played-first, played-on, played-out}
 use Rattle.driver.proofs.resume.Statement.{statement}

@@ -5,7 +5,7 @@ use Prim.Native.Nat.{_+_}
 use denote.Ref.{now}
 use lib.ListN.{length, getD}
 use borrow.Author.Needs.{needs}
-use Rattle.driver.specs.Script.{boundaryFrom, callAt}
+use Rattle.script.specs.Script.{boundaryFrom, callAt}
 use Rattle.driver.proofs.DriverLaws.{is-step, is-settle, is-setting, is-greatest, is-write, is-opening}
 use Rattle.driver.proofs.call.play_call.Statement.{statement}
 use Rattle.driver.proofs.call.play_call.Tie as tie

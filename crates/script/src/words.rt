@@ -3,7 +3,7 @@ ghost use mathlib.Core.Path.{_≡_};
 ghost use mathlib.Core.List.{[], _∷_};
 ghost use Prim.Native.Nat.{_+_, _≤_, min, max};
 ghost use lib.ListN.{length};
-ghost use Rattle.driver.specs.Script.{boundaryFrom};
+ghost use Rattle.script.specs.Script.{boundaryFrom};
 use reach::boundary::Boundary;
 use sheet::bytes::twos_in;
 

@@ -11,8 +11,8 @@ use Rattle.sheet.specs.Bytes.{twos}
 use Rattle.sheet.proofs.BytesLaws.{twos-low, twos-high}
 use Rattle.tally.specs.Call.{Call, stepBy, settle, setEnds, askGreatest, writeInto, reopen}
 use Rattle.tally.specs.Holds.{Each}
-use Rattle.driver.specs.Script.{boundaryFrom, part, callAt, callsFrom, script}
-use Rattle.driver.specs.Every.{Word, HalfWord, Byte, SignedWord, Stored, Given, sheetsSize, EveryList}
+use Rattle.script.specs.Script.{boundaryFrom, part, callAt, callsFrom, script}
+use Rattle.script.specs.Every.{Word, HalfWord, Byte, SignedWord, Stored, Given, sheetsSize, EveryList}
 
 -- ---- the memory of a list
 

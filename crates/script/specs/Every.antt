@@ -7,7 +7,7 @@ use lib.ListN.{length}
 use Rattle.reach.specs.declared.boundary.Boundary.{Boundary}
 use Rattle.tally.specs.Call.{Call, stepBy, settle, setEnds, askGreatest, writeInto, reopen}
 use Rattle.tally.specs.Holds.{Each}
-use Rattle.driver.specs.Script.{callWords, script}
+use Rattle.script.specs.Script.{callWords, script}
 
 -- numbers of a word, a half word and a byte
 abbrev pub Word : ℕ → Type 0

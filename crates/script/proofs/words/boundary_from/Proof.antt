@@ -5,9 +5,9 @@ use native.Mathlib.Omega.{arith}
 use mir.Facts.{toZ-ofZ}
 use borrow.Author.Needs.{needs, sfits-of}
 use Rattle.sheet.specs.Bytes.{twos}
-use Rattle.driver.specs.Script.{boundaryFrom}
-use Rattle.driver.proofs.words.boundary_from.Statement.{statement}
-use Rattle.driver.proofs.words.boundary_from.Tie as tie
+use Rattle.script.specs.Script.{boundaryFrom}
+use Rattle.script.proofs.words.boundary_from.Statement.{statement}
+use Rattle.script.proofs.words.boundary_from.Tie as tie
 
 mul-t3 : tie.Need-mul-t3
 mul-t3 c = search needs

@@ -1,8 +1,8 @@
 -- `driver::words::ends_from` meets its contract. Assumes nothing.
 use mathlib.Core.Path.{refl}
 use borrow.Author.Needs.{needs}
-use Rattle.driver.proofs.words.ends_from.Statement.{statement}
-use Rattle.driver.proofs.words.ends_from.Tie as tie
+use Rattle.script.proofs.words.ends_from.Statement.{statement}
+use Rattle.script.proofs.words.ends_from.Tie as tie
 
 add-boundary-from : tie.Need-add-boundary-from
 add-boundary-from c = search needs

@@ -1,9 +1,0 @@
-use Rattle.driver.proofs.EveryLaws.{every-list}
-use Rattle.driver.proofs.every.every_list.Statement.{statement}
-use Rattle.driver.proofs.every.every_list.Tie as tie
-
-returns : tie.Need-returns
-returns c = every-list
-
-pub every-list-spec : {M : Type 1} → statement M
-every-list-spec = tie.close (tie.spec returns)
