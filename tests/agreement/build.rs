@@ -1,7 +1,9 @@
-//! Links the static library that `rt staticlib harness` wrote.
+//! Links the static libraries that `rt staticlib jemmyfern_c` and `rt staticlib harness` wrote.
 fn main() {
-    let library = concat!(env!("CARGO_MANIFEST_DIR"), "/../../target/staticlib");
-    println!("cargo:rustc-link-search=native={library}");
-    println!("cargo:rustc-link-lib=static=harness");
-    println!("cargo:rerun-if-changed={library}/libharness.a");
+    let libraries = concat!(env!("CARGO_MANIFEST_DIR"), "/../../target/staticlib");
+    println!("cargo:rustc-link-search=native={libraries}");
+    for name in ["jemmyfern_c", "harness"] {
+        println!("cargo:rustc-link-lib=static={name}");
+        println!("cargo:rerun-if-changed={libraries}/lib{name}.a");
+    }
 }

@@ -1,4 +1,4 @@
-// The proved functions as C functions, for the comparison tests and the benchmarks. Not part of the product.
+// Inner functions, the driver and the program's text as C functions, for the comparison tests. Not part of the product.
 ghost use mathlib.Core.Path.{_≡_};
 ghost use Prim.Native.Nat.{_*_, _≤_};
 ghost use lib.IntN.{natAbs};
@@ -9,12 +9,7 @@ ghost use Rattle.flux.specs.Velocity.{velocity};
 ghost use Rattle.flux.specs.Crossing.{waterFlux, momentumFlux, stillThrust};
 ghost use Rattle.flux.specs.Interface.{reducedDepth};
 ghost use Rattle.flux.specs.Ranges.{Mesh};
-ghost use Rattle.reach.specs.Reach.{reachOf};
-ghost use Rattle.transport.specs.Calls.{setBoundaries, transport as transportOf, CameTo};
-ghost use Rattle.stepping.specs.GreatestStep.{greatest};
-ghost use Rattle.stepping.specs.Step.{StepCameTo};
-ghost use Rattle.sheet.specs.Opening.{lent, opening, OpenCameTo};
-ghost use Rattle.writing.specs.Writing.{WriteCameTo};
+ghost use Rattle.sheet.specs.Opening.{lent};
 ghost use Rattle.driver.specs.Replay.{ReplayCameTo};
 ghost use Rattle.text.specs.Text.{Put};
 ghost use Rattle.program.specs.Program.{programText};
@@ -29,15 +24,6 @@ use numbers::signed::joined;
 use numbers::signed::left_part;
 use numbers::signed::right_part;
 use program::program;
-use reach::boundary::Boundary;
-use reach::ledger::Ledger;
-use sheet::opening::Opened;
-use sheet::opening::open_sheet;
-use stepping::Greatest;
-use stepping::step::Stepped;
-use transport::Answer;
-use writing::write::Written;
-use writing::write::write_sheet;
 
 #[no_mangle]
 pub extern "C" fn harness_wave_speed(h: u64) -> u64
@@ -84,121 +70,6 @@ pub extern "C" fn harness_reduced_depth(h: u64, z: i64, beside: i64) -> u64
     ensures { λ r. ⌜ r ≡ reducedDepth h z beside ⌝ }
 {
     reduced_depth(h, z, beside)
-}
-
-// Both boundaries, as C passes them
-#[repr(C)]
-pub struct Pair {
-    pub ends: [Boundary; 2],
-}
-
-#[no_mangle]
-pub extern "C" fn harness_transport(
-    z: &[i64],
-    h: &[u64],
-    q: &[i64],
-    m: &mut [u64],
-    b: &mut [u64],
-    c: &mut [i64],
-    x: u64,
-    held: Pair,
-    ledger: Ledger,
-) -> Answer
-    ensures { λ r. ⌜ CameTo (transportOf (reachOf (now (z .entry)) (now (h .entry)) (now (q .entry)) (now (m .entry)) (now (b .entry)) (now (c .entry)) x (held .ends) ledger)) r (now (m .exit)) (now (b .exit)) (now (c .exit)) ⌝ }
-{
-    let ends = held.ends;
-    transport::transport(z, h, q, m, b, c, x, ends, ledger)
-}
-
-#[no_mangle]
-pub extern "C" fn harness_set_boundaries(
-    z: &[i64],
-    h: &[u64],
-    q: &[i64],
-    m: &mut [u64],
-    b: &mut [u64],
-    c: &mut [i64],
-    x: u64,
-    held: Pair,
-    ledger: Ledger,
-    new: Pair,
-) -> Answer
-    ensures { λ r. ⌜ CameTo (setBoundaries (reachOf (now (z .entry)) (now (h .entry)) (now (q .entry)) (now (m .entry)) (now (b .entry)) (now (c .entry)) x (held .ends) ledger) (new .ends)) r (now (m .exit)) (now (b .exit)) (now (c .exit)) ⌝ }
-{
-    let ends = held.ends;
-    let given = new.ends;
-    transport::set_boundaries(z, h, q, m, b, c, x, ends, ledger, given)
-}
-
-#[no_mangle]
-pub extern "C" fn harness_greatest_step(
-    z: &[i64],
-    h: &[u64],
-    q: &[i64],
-    m: &[u64],
-    b: &[u64],
-    c: &[i64],
-    x: u64,
-    held: Pair,
-    ledger: Ledger,
-) -> Greatest
-    ensures { λ r. ⌜ r ≡ greatest (reachOf (now (z .entry)) (now (h .entry)) (now (q .entry)) (now (m .entry)) (now (b .entry)) (now (c .entry)) x (held .ends) ledger) ⌝ }
-{
-    let ends = held.ends;
-    stepping::greatest_step(z, h, q, m, b, c, x, ends, ledger)
-}
-
-#[no_mangle]
-pub extern "C" fn harness_step(
-    z: &[i64],
-    h: &mut [u64],
-    q: &mut [i64],
-    m: &mut [u64],
-    b: &mut [u64],
-    c: &mut [i64],
-    x: u64,
-    held: Pair,
-    ledger: Ledger,
-    t: u64,
-) -> Stepped
-    ensures { λ r. ⌜ StepCameTo (reachOf (now (z .entry)) (now (h .entry)) (now (q .entry)) (now (m .entry)) (now (b .entry)) (now (c .entry)) x (held .ends) ledger) t r (now (h .exit)) (now (q .exit)) (now (m .exit)) (now (b .exit)) (now (c .exit)) ⌝ }
-{
-    let ends = held.ends;
-    stepping::step::step(z, h, q, m, b, c, x, ends, ledger, t)
-}
-
-#[no_mangle]
-pub extern "C" fn harness_open(
-    s: &[u8],
-    z: &mut [i64],
-    h: &mut [u64],
-    q: &mut [i64],
-    m: &mut [u64],
-    b: &mut [u64],
-    c: &mut [i64],
-) -> Opened
-    ensures { λ r. ⌜ OpenCameTo (opening (now (s .entry)) (lent (now (z .entry)) (now (h .entry)) (now (q .entry)) (now (m .entry)) (now (b .entry)) (now (c .entry)))) r (now (z .exit)) (now (h .exit)) (now (q .exit)) (now (m .exit)) (now (b .exit)) (now (c .exit)) ⌝ }
-{
-    open_sheet(s, z, h, q, m, b, c)
-}
-
-#[no_mangle]
-pub extern "C" fn harness_write(
-    z: &[i64],
-    h: &[u64],
-    q: &[i64],
-    m: &[u64],
-    b: &[u64],
-    c: &[i64],
-    x: u64,
-    held: Pair,
-    ledger: Ledger,
-    out: &mut [u8],
-) -> Written
-    ensures { λ r. ⌜ WriteCameTo (reachOf (now (z .entry)) (now (h .entry)) (now (q .entry)) (now (m .entry)) (now (b .entry)) (now (c .entry)) x (held .ends) ledger) (now (out .entry)) r (now (out .exit)) ⌝ }
-{
-    let ends = held.ends;
-    write_sheet(z, h, q, m, b, c, x, ends, ledger, out)
 }
 
 #[no_mangle]

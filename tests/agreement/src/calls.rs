@@ -70,7 +70,7 @@ struct RawOpened {
 
 // A slice goes to C as a pointer and a length, bed level, depth, discharge, mass, base depth and carried water in this order.
 extern "C" {
-    fn harness_transport(
+    fn jemmyfern_settle(
         z: *const i64,
         zn: usize,
         h: *const u64,
@@ -87,7 +87,7 @@ extern "C" {
         held: Pair,
         ledger: Ledger,
     ) -> RawAnswer;
-    fn harness_set_boundaries(
+    fn jemmyfern_set_ends(
         z: *const i64,
         zn: usize,
         h: *const u64,
@@ -105,7 +105,7 @@ extern "C" {
         ledger: Ledger,
         new: Pair,
     ) -> RawAnswer;
-    fn harness_greatest_step(
+    fn jemmyfern_greatest_step(
         z: *const i64,
         zn: usize,
         h: *const u64,
@@ -122,7 +122,7 @@ extern "C" {
         held: Pair,
         ledger: Ledger,
     ) -> RawGreatest;
-    fn harness_step(
+    fn jemmyfern_step(
         z: *const i64,
         zn: usize,
         h: *mut u64,
@@ -140,7 +140,7 @@ extern "C" {
         ledger: Ledger,
         t: u64,
     ) -> RawStepped;
-    fn harness_write(
+    fn jemmyfern_write(
         z: *const i64,
         zn: usize,
         h: *const u64,
@@ -159,7 +159,7 @@ extern "C" {
         out: *mut u8,
         outn: usize,
     ) -> RawAnswer;
-    fn harness_open(
+    fn jemmyfern_open(
         s: *const u8,
         sn: usize,
         z: *mut i64,
@@ -290,21 +290,15 @@ macro_rules! call {
 }
 
 pub fn settle(r: &mut Record) -> Answer {
-    answer(call!(harness_transport, r, as_ptr, as_mut_ptr))
+    answer(call!(jemmyfern_settle, r, as_ptr, as_mut_ptr))
 }
 
 pub fn set_ends(r: &mut Record, new: [End; 2]) -> Answer {
-    answer(call!(
-        harness_set_boundaries,
-        r,
-        as_ptr,
-        as_mut_ptr,
-        pair(new)
-    ))
+    answer(call!(jemmyfern_set_ends, r, as_ptr, as_mut_ptr, pair(new)))
 }
 
 pub fn greatest_step(r: &Record) -> GreatestAnswer {
-    let g = call!(harness_greatest_step, r, as_ptr, as_ptr);
+    let g = call!(jemmyfern_greatest_step, r, as_ptr, as_ptr);
     GreatestAnswer {
         refusal: g.refusal,
         ends: g.ends.map(end),
@@ -315,7 +309,7 @@ pub fn greatest_step(r: &Record) -> GreatestAnswer {
 }
 
 pub fn step(r: &mut Record, t: u64) -> StepAnswer {
-    let s = call!(harness_step, r, as_mut_ptr, as_mut_ptr, t);
+    let s = call!(jemmyfern_step, r, as_mut_ptr, as_mut_ptr, t);
     StepAnswer {
         refusal: s.refusal,
         ends: s.ends.map(end),
@@ -327,7 +321,7 @@ pub fn step(r: &mut Record, t: u64) -> StepAnswer {
 /// Writes the sheet of a settled record at the start of `out`.
 pub fn write(r: &Record, out: &mut [u8]) -> WriteAnswer {
     let w = call!(
-        harness_write,
+        jemmyfern_write,
         r,
         as_ptr,
         as_ptr,
@@ -372,7 +366,7 @@ fn opened(o: RawOpened) -> OpenAnswer {
 /// Fills the lent columns from a sheet.
 pub fn open(sheet: &[u8], columns: &mut Columns) -> OpenAnswer {
     opened(lend!(
-        harness_open,
+        jemmyfern_open,
         columns,
         [sheet.as_ptr(), sheet.len()],
         []

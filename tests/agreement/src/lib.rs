@@ -1,5 +1,6 @@
 //! The proved functions, each behind a safe wrapper that tests what its contract requires.
-//! Nothing checks these declarations against crates/harness/src/lib.rt: keep the two side by side.
+//! Nothing checks these declarations against crates/harness/src/lib.rt: keep the two side by side. Those of the six calls are
+//! checked against the C header in rust/jemmyfern.
 
 pub mod both;
 pub mod calls;

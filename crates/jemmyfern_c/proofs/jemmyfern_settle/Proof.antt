@@ -1,7 +1,7 @@
--- `harness::harness_transport` meets its contract: what the transport it passes on ensures. Assumes nothing.
+-- `jemmyfern_c::jemmyfern_settle` meets its contract: what the transport it passes on ensures. Assumes nothing.
 use borrow.Author.Needs.{needs}
-use Rattle.harness.proofs.harness_transport.Statement.{statement}
-use Rattle.harness.proofs.harness_transport.Tie as tie
+use Rattle.jemmyfern_c.proofs.jemmyfern_settle.Statement.{statement}
+use Rattle.jemmyfern_c.proofs.jemmyfern_settle.Tie as tie
 
 transport-requires : tie.Need-transport-requires
 transport-requires c κs = search needs
@@ -18,6 +18,6 @@ same-length-3 c = search needs
 returns : tie.Need-returns
 returns c = c .before .before .before .before .before .transport .ensures
 
-pub harness-transport-spec : {M : Type 1} → statement M
-harness-transport-spec =
+pub jemmyfern-settle-spec : {M : Type 1} → statement M
+jemmyfern-settle-spec =
     tie.close (tie.spec transport-requires same-length same-length-2 same-length-3 returns)

@@ -1,7 +1,7 @@
--- `harness::harness_step` meets its contract: what the step it passes on ensures. Assumes nothing.
+-- `jemmyfern_c::jemmyfern_step` meets its contract: what the step it passes on ensures. Assumes nothing.
 use borrow.Author.Needs.{needs}
-use Rattle.harness.proofs.harness_step.Statement.{statement}
-use Rattle.harness.proofs.harness_step.Tie as tie
+use Rattle.jemmyfern_c.proofs.jemmyfern_step.Statement.{statement}
+use Rattle.jemmyfern_c.proofs.jemmyfern_step.Tie as tie
 
 step-requires : tie.Need-step-requires
 step-requires c κs = search needs
@@ -24,6 +24,6 @@ same-length-5 c = search needs
 returns : tie.Need-returns
 returns c = c .before .before .before .before .before .before .before .before .step .ensures
 
-pub harness-step-spec : {M : Type 1} → statement M
-harness-step-spec =
+pub jemmyfern-step-spec : {M : Type 1} → statement M
+jemmyfern-step-spec =
     tie.close (tie.spec step-requires same-length same-length-2 same-length-3 same-length-4 same-length-5 returns)

@@ -1,7 +1,7 @@
--- `harness::harness_set_boundaries` meets its contract: what the setting it passes on ensures. Assumes nothing.
+-- `jemmyfern_c::jemmyfern_set_ends` meets its contract: what the setting it passes on ensures. Assumes nothing.
 use borrow.Author.Needs.{needs}
-use Rattle.harness.proofs.harness_set_boundaries.Statement.{statement}
-use Rattle.harness.proofs.harness_set_boundaries.Tie as tie
+use Rattle.jemmyfern_c.proofs.jemmyfern_set_ends.Statement.{statement}
+use Rattle.jemmyfern_c.proofs.jemmyfern_set_ends.Tie as tie
 
 set-boundaries-requires : tie.Need-set-boundaries-requires
 set-boundaries-requires c κs = search needs
@@ -18,6 +18,6 @@ same-length-3 c = search needs
 returns : tie.Need-returns
 returns c = c .before .before .before .before .before .set-boundaries .ensures
 
-pub harness-set-boundaries-spec : {M : Type 1} → statement M
-harness-set-boundaries-spec =
+pub jemmyfern-set-ends-spec : {M : Type 1} → statement M
+jemmyfern-set-ends-spec =
     tie.close (tie.spec set-boundaries-requires same-length same-length-2 same-length-3 returns)

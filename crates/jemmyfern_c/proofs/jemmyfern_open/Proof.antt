@@ -1,7 +1,7 @@
--- `harness::harness_open` meets its contract: what the opening it passes on ensures. Assumes nothing.
+-- `jemmyfern_c::jemmyfern_open` meets its contract: what the opening it passes on ensures. Assumes nothing.
 use borrow.Author.Needs.{needs}
-use Rattle.harness.proofs.harness_open.Statement.{statement}
-use Rattle.harness.proofs.harness_open.Tie as tie
+use Rattle.jemmyfern_c.proofs.jemmyfern_open.Statement.{statement}
+use Rattle.jemmyfern_c.proofs.jemmyfern_open.Tie as tie
 
 open-sheet-requires : tie.Need-open-sheet-requires
 open-sheet-requires c κs = search needs
@@ -27,6 +27,6 @@ same-length-6 c = search needs
 returns : tie.Need-returns
 returns c = c .before .before .before .before .before .before .before .before .before .open-sheet .ensures
 
-pub harness-open-spec : {M : Type 1} → statement M
-harness-open-spec =
+pub jemmyfern-open-spec : {M : Type 1} → statement M
+jemmyfern-open-spec =
     tie.close (tie.spec open-sheet-requires same-length same-length-2 same-length-3 same-length-4 same-length-5 same-length-6 returns)

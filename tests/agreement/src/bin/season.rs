@@ -1,0 +1,92 @@
+//! A season of steps on both implementations, every call compared: a small reach for a long time, the longest reach for a shorter one, then the
+//! same with the record damaged between calls, as memory in the field may be. Optional: it takes minutes.
+
+use agreement::both::{broken, same, settled, Call, WALL};
+use reference::random::{Random, Record};
+use reference::record::{End, FED, OPEN};
+use std::collections::BTreeMap;
+use std::time::Instant;
+
+/// What came of a season.
+#[derive(Default)]
+struct Season {
+    calls: u64,
+    settlings: u64,
+    /// calls by number of refusal, 0 for accepted
+    numbers: BTreeMap<u32, u64>,
+}
+
+impl Season {
+    fn call(&mut self, call: Call, record: &mut Record) -> u32 {
+        let answer = same(call, record);
+        self.calls += 1;
+        self.settlings += u64::from(answer.settled);
+        *self.numbers.entry(answer.refusal).or_default() += 1;
+        answer.refusal
+    }
+}
+
+/// A canal about a metre deep over an uneven bed, fed at its head and open at its tail.
+fn canal(r: &mut Random, cells: usize) -> Record {
+    let list: Vec<_> = (0..cells)
+        .map(|_| {
+            let bed = r.between(-60_000, 60_000);
+            let depth = (1_000_000 - bed) as u64;
+            (bed, depth, 200 * depth as i64, 700 * depth)
+        })
+        .collect();
+    let tail = End { kind: OPEN, ..WALL };
+    settled(5_000, [head(r), tail], &list)
+}
+
+/// The head as the gate and the dose stand: a little deeper or shallower, faster or slower, richer or poorer.
+fn head(r: &mut Random) -> End {
+    let depth = r.between(900_000, 1_100_000);
+    End {
+        kind: FED,
+        depth: depth as u32,
+        concentration: r.below(5_000) as u32,
+        zero: 0,
+        discharge: r.between(-20, 400) * depth,
+    }
+}
+
+/// So many steps of the greatest length, with another head every thousand steps. With `damage` every hundred steps a call on the record damaged
+/// in each way of grounds 4 to 9; then the damage is mended.
+fn season(cells: usize, steps: u64, damage: bool) {
+    let mut r = Random::new(97);
+    let mut record = canal(&mut r, cells);
+    let mut season = Season::default();
+    let begun = Instant::now();
+    for k in 0..steps {
+        if k % 1_000 == 999 {
+            let ends = [head(&mut r), record.ends[1]];
+            assert_eq!(season.call(Call::SetEnds(ends), &mut record), 0);
+        }
+        if damage && k % 100 == 50 {
+            for mut b in broken(&mut r, &record) {
+                let call = r.pick(&[Call::Step(1), Call::Settle, Call::Greatest]);
+                assert_eq!(season.call(call, &mut b.record), b.ground);
+            }
+        }
+        let t = agreement::calls::greatest_step(&record).t.into();
+        assert_eq!(season.call(Call::Step(t), &mut record), 0);
+    }
+    assert_eq!(season.call(Call::Settle, &mut record), 0);
+    println!(
+        "{cells} cells, {steps} steps, {}: {} calls agree, {} steps settled first; calls by number {:?}; {:?}; {} s",
+        if damage { "damaged between calls" } else { "undamaged" },
+        season.calls,
+        season.settlings,
+        season.numbers,
+        record.book,
+        begun.elapsed().as_secs()
+    );
+}
+
+fn main() {
+    season(8, 10_000_000, false);
+    season(512, 200_000, false);
+    season(8, 10_000_000, true);
+    season(512, 200_000, true);
+}
