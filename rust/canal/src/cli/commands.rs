@@ -1,0 +1,160 @@
+//! What the commands do.
+
+use super::args::Run;
+use super::failure::{tell, Failure};
+use super::files::{say, Place};
+use super::progress::Progress;
+use canal::balance::{Balance, Held};
+use canal::describe::{describe, place};
+use canal::explain::{explain, refused};
+use canal::record::Record;
+use canal::run::{Made, Stopped};
+use canal::table::{self, Table};
+use canal::units::{counted, metres_of_mm, seconds};
+use canal::{plot as plots, run as runs};
+use jemmyfern::Refusal;
+
+pub fn make(table: &Place, sheet: &Place) -> Result<(), Failure> {
+    let wrong = |words: String| Failure::Wrong(format!("{table}: {words}"));
+    let text = String::from_utf8(table.read()?).map_err(|_| wrong("this is not text".into()))?;
+    let made = table::read(&text).map_err(|error| wrong(error.to_string()))?;
+    let draft = made.record.draft_sheet();
+    match Record::open(&draft) {
+        Ok(_) => sheet.write(&draft),
+        Err(refusal) => Err(wrong(refused(&draft, refusal) + &lines_of(&draft, &made))),
+    }
+}
+
+/// Where the first cell that is refused stands in the table.
+fn lines_of(draft: &[u8], table: &Table) -> String {
+    let first = explain(draft).and_then(|e| e.faults.into_iter().find_map(|f| f.cell));
+    match first.and_then(|cell| Some((cell, table.lines.get(cell)?))) {
+        Some((cell, line)) => format!("\n  cell {cell} is on line {line}"),
+        None => String::new(),
+    }
+}
+
+pub fn show(sheet: &Place) -> Result<(), Failure> {
+    let record = open(sheet)?;
+    say(&table::write(&record))
+}
+
+pub fn inspect(sheet: &Place) -> Result<(), Failure> {
+    let bytes = sheet.read()?;
+    match Record::open(&bytes) {
+        Ok(mut record) => {
+            let words = describe(&bytes, &mut record).map_err(|r| refusal(sheet, r))?;
+            say(&words)
+        }
+        // the words are what was asked for, so they go where the others do
+        Err(ground) => match say(&format!("{}\n", no_sheet(&bytes, ground))) {
+            Ok(()) | Err(Failure::Closed) => Err(Failure::Refused),
+            Err(failure) => Err(failure),
+        },
+    }
+}
+
+pub fn run(run: &Run) -> Result<(), Failure> {
+    let mut record = open(&run.sheet)?;
+    let before = Held::by(&record);
+    let mut progress = Progress::new(run.time, run.quiet);
+    let made = runs::run(&mut record, run.time, run.step, |made| progress.show(made));
+    progress.clear();
+    let made = made.map_err(|stopped| Failure::Wrong(stop(&run.sheet, &stopped, &record)))?;
+    let balance = Balance::of(before, &record);
+    if let Some(out) = &run.out {
+        let sheet = record.to_sheet().map_err(|r| refusal(&run.sheet, r))?;
+        out.write(&sheet)?;
+    }
+    let reported = report(run, &format!("{}{balance}", made_line(&made)));
+    match balance.closes() {
+        true => reported,
+        false => Err(Failure::Wrong("the balance does not close".into())),
+    }
+}
+
+/// To standard output, unless the sheet goes there.
+fn report(run: &Run, words: &str) -> Result<(), Failure> {
+    if run.quiet {
+        return Ok(());
+    }
+    if run.out.as_ref().is_some_and(Place::is_standard) {
+        tell(words);
+        return Ok(());
+    }
+    say(words)
+}
+
+fn made_line(made: &Made) -> String {
+    let (time, steps) = (seconds(made.time), counted(made.steps, "step"));
+    let settlings = counted(made.settlings, "settling");
+    format!("{time} s of canal time: {steps}, {settlings} (the last one at the end)\n")
+}
+
+fn stop(sheet: &Place, stopped: &Stopped, record: &Record) -> String {
+    let made = &stopped.made;
+    let (refusal, time) = (stopped.refusal, seconds(made.time));
+    let steps = counted(made.steps, "step");
+    let why = match refusal {
+        Refusal::Cfl => too_long(stopped, record),
+        Refusal::Depth => too_deep(stopped, record),
+        _ => String::new(),
+    };
+    format!("{sheet}: {refusal}\n  at {time} s of canal time, after {steps}{why}\n  nothing was written")
+}
+
+fn too_long(stopped: &Stopped, record: &Record) -> String {
+    let Some(greatest) = stopped.greatest else {
+        return String::new();
+    };
+    let (step, most) = (stopped.step, greatest.time);
+    let place = place(greatest.place, record.cells());
+    format!(": a step of {step} ms, where {most} ms is the greatest, set by {place}")
+}
+
+fn too_deep(stopped: &Stopped, record: &Record) -> String {
+    let step = stopped.step;
+    match runs::fills_most(record, step) {
+        Some(cell) => {
+            let depth = record.depth[cell];
+            format!(": a step of {step} ms would overfill cell {cell}, now {depth} µm deep")
+        }
+        None => ": even a step of 1 ms would overfill a cell".into(),
+    }
+}
+
+pub fn plot(sheet: &Place, picture: &Place) -> Result<(), Failure> {
+    let record = open(sheet)?;
+    let cells = counted(record.cells() as u64, "cell");
+    let length = metres_of_mm(record.cell_length);
+    let title = match sheet {
+        Place::Standard => format!("{cells} of {length} m"),
+        Place::File(path) => {
+            let name = path.file_name().unwrap_or_default();
+            format!("{}: {cells} of {length} m", name.to_string_lossy())
+        }
+    };
+    picture.write(plots::chart(&title, &record).svg().as_bytes())
+}
+
+/// The record of a sheet, or the words of its refusal.
+fn open(sheet: &Place) -> Result<Record, Failure> {
+    let bytes = sheet.read()?;
+    Record::open(&bytes).map_err(|ground| {
+        let words = no_sheet(&bytes, ground);
+        Failure::Wrong(format!("{sheet}: {words}"))
+    })
+}
+
+/// What is wrong with the bytes. A table is easily given in the place of its sheet.
+fn no_sheet(bytes: &[u8], ground: Refusal) -> String {
+    let mut words = refused(bytes, ground);
+    if table::looks_like_one(bytes) {
+        words += "\n  this looks like a table: `canal make` it first";
+    }
+    words
+}
+
+fn refusal(sheet: &Place, refusal: Refusal) -> Failure {
+    Failure::Wrong(format!("{sheet}: {refusal}"))
+}

@@ -1,0 +1,199 @@
+//! What is wrong with a refused sheet, in words. The ground is the library's to say; this looks for what is broken at it.
+
+mod rules;
+
+use crate::layout::{self, Header, COLUMNS, HEADER};
+use crate::limits::*;
+use crate::units::counted;
+use jemmyfern::{Boundary, Refusal};
+use rules::*;
+
+/// One thing that is wrong.
+#[derive(Clone, Debug, PartialEq)]
+pub struct Fault {
+    /// counted from 0
+    pub cell: Option<usize>,
+    pub words: String,
+}
+
+/// The first ground that a sheet does not stand, and all that is wrong at it.
+#[derive(Clone, Debug, PartialEq)]
+pub struct Explanation {
+    pub ground: Refusal,
+    pub faults: Vec<Fault>,
+}
+
+/// More than this are counted only.
+const SHOWN: usize = 8;
+
+/// Looks through the grounds of an opening in the paper's order; None of a sheet that opens. Ground 4 is of lent columns, not of sheets.
+pub fn explain(sheet: &[u8]) -> Option<Explanation> {
+    let found = |ground, faults: Vec<Fault>| {
+        let broken = !faults.is_empty();
+        broken.then_some(Explanation { ground, faults })
+    };
+    let Some(header) = Header::read(sheet) else {
+        return found(Refusal::Edition, vec![short(sheet)]);
+    };
+    found(Refusal::Edition, edition(&header))
+        .or_else(|| found(Refusal::Size, size(&header, sheet.len())))
+        .or_else(|| found(Refusal::Layout, columns(&header)))
+        .or_else(|| found(Refusal::CellLength, cell_length(&header)))
+        .or_else(|| found(Refusal::Ends, ends(&header)))
+        .or_else(|| found(Refusal::Values, values(&header, sheet)))
+}
+
+/// The lines to say of a sheet that the library refused.
+pub fn refused(sheet: &[u8], refusal: Refusal) -> String {
+    match explain(sheet).filter(|e| e.ground == refusal) {
+        Some(explanation) => explanation.to_string(),
+        None => refusal.to_string(),
+    }
+}
+
+impl std::fmt::Display for Explanation {
+    fn fmt(&self, f: &mut std::fmt::Formatter<'_>) -> std::fmt::Result {
+        let number = self.ground.number();
+        for (i, fault) in self.faults.iter().take(SHOWN).enumerate() {
+            match i {
+                0 => writeln!(f, "refused {number}: {}", fault.words)?,
+                _ => writeln!(f, "  also: {}", fault.words)?,
+            }
+        }
+        if self.faults.len() > SHOWN {
+            writeln!(f, "  and {} more", self.faults.len() - SHOWN)?;
+        }
+        write!(f, "  ground {number}: {}", self.ground.words())
+    }
+}
+
+fn fault(words: String) -> Fault {
+    Fault { cell: None, words }
+}
+
+fn short(sheet: &[u8]) -> Fault {
+    let bytes = sheet.len();
+    fault(format!(
+        "the sheet has {bytes} bytes, and its header alone wants {HEADER}"
+    ))
+}
+
+fn edition(header: &Header) -> Vec<Fault> {
+    let edition = header.edition;
+    let words = || fault(format!("edition {edition} is not 1"));
+    (edition != 1).then(words).into_iter().collect()
+}
+
+fn size(header: &Header, given: usize) -> Vec<Fault> {
+    let (cells, length) = (header.cells, u64::from(header.length));
+    if !(1..=CELLS_MOST).contains(&cells) {
+        return vec![fault(format!("{cells} cells, outside 1..{CELLS_MOST}"))];
+    }
+    let mut faults = Vec::new();
+    if length != given as u64 {
+        faults.push(fault(format!(
+            "the length field says {length}, but {given} bytes are given"
+        )));
+    }
+    let wanted = jemmyfern::sheet_size(cells as usize) as u64;
+    if length != wanted {
+        let cells = counted(cells.into(), "cell");
+        faults.push(fault(format!(
+            "the length field says {length}, but a sheet of {cells} has {wanted} bytes"
+        )));
+    }
+    faults
+}
+
+fn columns(header: &Header) -> Vec<Fault> {
+    let mut faults = Vec::new();
+    for (i, (name, _)) in COLUMNS.iter().enumerate() {
+        let (from, to) = header.column(i);
+        if from < HEADER as u64 {
+            faults.push(fault(format!(
+                "the offset of the {name}, {from}, is under {HEADER}"
+            )));
+        }
+        if to > u64::from(header.length) {
+            let end = header.length;
+            faults.push(fault(format!(
+                "the {name} (bytes {from}..{to}) pass the sheet's end ({end})"
+            )));
+        }
+    }
+    for i in 0..COLUMNS.len() {
+        let others = i + 1..COLUMNS.len();
+        faults.extend(others.filter_map(|j| overlap(header, i, j)));
+    }
+    faults
+}
+
+fn overlap(header: &Header, i: usize, j: usize) -> Option<Fault> {
+    let ((a, b), (c, d)) = (header.column(i), header.column(j));
+    let (one, other) = (COLUMNS[i].0, COLUMNS[j].0);
+    let words = || {
+        fault(format!(
+            "the {one} (bytes {a}..{b}) and the {other} ({c}..{d}) overlap"
+        ))
+    };
+    (a < d && c < b).then(words)
+}
+
+fn cell_length(header: &Header) -> Vec<Fault> {
+    let length = i128::from(header.cell_length);
+    let range = (CELL_LENGTH_LEAST.into(), CELL_LENGTH_MOST.into());
+    let words = outside("cell length", length, range);
+    words.into_iter().map(fault).collect()
+}
+
+fn ends(header: &Header) -> Vec<Fault> {
+    let [left, right] = &header.ends;
+    let mut faults = end("left end", left);
+    faults.extend(end("right end", right));
+    faults
+}
+
+fn end(side: &str, end: &Boundary) -> Vec<Fault> {
+    let words = match end.kind {
+        0 => wall(end),
+        1 => open(end),
+        2 => fed(end),
+        kind => vec![Some(format!(
+            "kind {kind} is none of 0 wall, 1 open, 2 fed"
+        ))],
+    };
+    let reserved = zero("the zero field", end.reserved.into());
+    let words = words.into_iter().chain([reserved]).flatten();
+    words.map(|w| fault(format!("{side}: {w}"))).collect()
+}
+
+fn values(header: &Header, sheet: &[u8]) -> Vec<Fault> {
+    let cells = 0..header.cells as usize;
+    let faults = cells.flat_map(|i| {
+        let words = cell(header, sheet, i).unwrap_or_default();
+        words.into_iter().flatten().map(move |w| Fault {
+            cell: Some(i),
+            words: format!("cell {i}: {w}"),
+        })
+    });
+    faults.collect()
+}
+
+/// What is wrong with the values of cell `i`; None if the sheet does not reach so far, which grounds 2 and 3 leave no room for.
+fn cell(header: &Header, sheet: &[u8], i: usize) -> Option<Vec<Option<String>>> {
+    let at = |column: usize| header.offsets[column] as usize + COLUMNS[column].1 * i;
+    let bed = layout::i32_at(sheet, at(0))?;
+    let depth = u64::from(layout::u32_at(sheet, at(1))?);
+    let q = layout::i64_at(sheet, at(2))?;
+    let m = layout::u64_at(sheet, at(3))?;
+    Some(vec![
+        outside(
+            "bed level",
+            bed.into(),
+            (-i128::from(BED_MOST), BED_MOST.into()),
+        ),
+        outside("depth", depth.into(), (0, DEPTH_MOST.into())),
+        discharge(q, depth),
+        mass(m, depth),
+    ])
+}

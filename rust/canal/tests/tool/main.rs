@@ -1,0 +1,12 @@
+//! The tool from outside: each test runs the binary, or holds its library to account.
+
+mod explain;
+mod files;
+mod inspect;
+mod make;
+mod plot;
+mod record;
+mod run;
+mod stored;
+mod tools;
+mod usage;

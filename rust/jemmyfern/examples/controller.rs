@@ -1,0 +1,127 @@
+//! A controller's loop: opens a sheet, follows an hour of canal time with the greatest steps, changes the dose at the head twice, prints what
+//! passed the ends, writes the sheet and opens it again.
+//!
+//!     controller IN.sheet OUT.sheet
+
+use jemmyfern::{cells_in, sheet_size, Boundary, Columns, Reach, Totals, CELLS_MOST};
+use std::error::Error;
+use std::process::ExitCode;
+
+const HOUR_MS: u64 = 3_600_000;
+
+/// Doses from the first and from the second third of the hour on, micrograms per litre.
+const DOSES: [(u64, u64); 2] = [(HOUR_MS / 3, 40_000), (HOUR_MS / 3 * 2, 500)];
+
+/// All the memory of a record: the columns that every call is lent.
+struct Memory {
+    bed: [i64; CELLS_MOST],
+    depth: [u64; CELLS_MOST],
+    discharge: [i64; CELLS_MOST],
+    mass: [u64; CELLS_MOST],
+    base: [u64; CELLS_MOST],
+    carried: [i64; CELLS_MOST + 1],
+}
+
+impl Memory {
+    const fn new() -> Memory {
+        Memory {
+            bed: [0; CELLS_MOST],
+            depth: [0; CELLS_MOST],
+            discharge: [0; CELLS_MOST],
+            mass: [0; CELLS_MOST],
+            base: [0; CELLS_MOST],
+            carried: [0; CELLS_MOST + 1],
+        }
+    }
+
+    /// The columns of n cells.
+    fn lend(&mut self, n: usize) -> Columns<'_> {
+        Columns {
+            bed: &mut self.bed[..n],
+            depth: &mut self.depth[..n],
+            discharge: &mut self.discharge[..n],
+            mass: &mut self.mass[..n],
+            base: &mut self.base[..n],
+            carried: &mut self.carried[..n + 1],
+        }
+    }
+}
+
+/// The head's dose: the left end as it is, with another concentration.
+fn with_dose(ends: [Boundary; 2], concentration: u64) -> [Boundary; 2] {
+    let head = Boundary {
+        concentration,
+        ..ends[0]
+    };
+    [head, ends[1]]
+}
+
+fn print_totals(end: &str, t: &Totals) {
+    println!(
+        "{end} water in {} out {} nutrient in {} out {}",
+        t.water_in, t.water_out, t.mass_in, t.mass_out
+    );
+}
+
+/// An hour of canal time; tells the steps and the settlings.
+fn follow(reach: &mut Reach) -> Result<(u64, u64), Box<dyn Error>> {
+    let mut doses = DOSES.iter().peekable();
+    let (mut elapsed, mut steps, mut settlings) = (0, 0, 0);
+    while elapsed < HOUR_MS {
+        if let Some((_, dose)) = doses.next_if(|(from, _)| elapsed >= *from) {
+            reach.set_ends(with_dose(reach.ends, *dose))?;
+            settlings += 1;
+        }
+        let t = reach.greatest_step()?.time.min(HOUR_MS - elapsed);
+        settlings += u64::from(reach.step(t)?.settled);
+        elapsed += t;
+        steps += 1;
+    }
+    reach.settle()?;
+    Ok((steps, settlings + 1))
+}
+
+/// Everything that a sheet holds is the same.
+fn same_record(a: &Reach, b: &Reach) -> bool {
+    let (c, d) = (&a.columns, &b.columns);
+    (a.cell_length, a.ends) == (b.cell_length, b.ends)
+        && (&*c.bed, &*c.depth, &*c.discharge) == (&*d.bed, &*d.depth, &*d.discharge)
+        && (&*c.mass, &*c.base, &*c.carried) == (&*d.mass, &*d.base, &*d.carried)
+}
+
+fn run(from: &str, to: &str) -> Result<(), Box<dyn Error>> {
+    let sheet = std::fs::read(from).map_err(|error| format!("{from}: {error}"))?;
+    let mut memory = Memory::new();
+    let mut reach = Reach::open(&sheet, memory.lend(cells_in(&sheet)))?;
+    println!("cells {} of {} mm", reach.cells(), reach.cell_length);
+    let (steps, settlings) = follow(&mut reach)?;
+    println!("steps {steps} settlings {settlings}");
+    print_totals("left", &reach.ledger.left);
+    print_totals("right", &reach.ledger.right);
+    let mut out = [0; sheet_size(CELLS_MOST)];
+    let length = reach.write(&mut out)?;
+    let written = &out[..length];
+    std::fs::write(to, written).map_err(|error| format!("{to}: {error}"))?;
+    let mut again = Memory::new();
+    let opened = Reach::open(written, again.lend(cells_in(written)))?;
+    if !same_record(&reach, &opened) {
+        return Err("the sheet opens as another record".into());
+    }
+    println!("written and opened again: {length} bytes");
+    Ok(())
+}
+
+fn main() -> ExitCode {
+    let files: Vec<String> = std::env::args().skip(1).collect();
+    let [from, to] = &files[..] else {
+        eprintln!("usage: controller IN.sheet OUT.sheet");
+        return ExitCode::from(2);
+    };
+    match run(from, to) {
+        Ok(()) => ExitCode::SUCCESS,
+        Err(error) => {
+            eprintln!("{error}");
+            ExitCode::FAILURE
+        }
+    }
+}

@@ -1,0 +1,229 @@
+//! The C header against the declarations in `raw`: the layout of every type and every call, through both.
+
+#[path = "../tests/cc/mod.rs"]
+mod cc;
+
+use crate::raw::{self, Answer, Ends, Greatest, Opened, Stepped};
+use crate::{cells_in, sheet_size, Boundary, Ledger, Totals};
+use std::fmt::Write;
+use std::mem::{align_of, offset_of, size_of};
+use std::process::Command;
+
+macro_rules! layout {
+    ($text:ident, $name:literal, $type:ty $(, $field:ident)*) => {
+        writeln!($text, "{} {} {}", $name, size_of::<$type>(), align_of::<$type>()).unwrap();
+        $(writeln!($text, "{} {} {}", $name, stringify!($field), offset_of!($type, $field)).unwrap();)*
+    };
+}
+
+fn layouts() -> String {
+    let mut text = String::new();
+    layout!(
+        text,
+        "boundary",
+        Boundary,
+        kind,
+        reserved,
+        depth,
+        concentration,
+        discharge
+    );
+    layout!(text, "ends", Ends);
+    layout!(text, "totals", Totals, water_in, water_out, mass_in, mass_out);
+    layout!(text, "ledger", Ledger, left, right);
+    layout!(text, "answer", Answer, refusal, ends, ledger);
+    layout!(text, "opened", Opened, refusal, cell_length, ends, ledger);
+    layout!(text, "stepped", Stepped, refusal, ends, ledger, settled);
+    layout!(text, "greatest", Greatest, refusal, ends, ledger, time, place);
+    text
+}
+
+/// What the C program keeps in its statics.
+struct Record {
+    bed: Vec<i64>,
+    depth: Vec<u64>,
+    discharge: Vec<i64>,
+    mass: Vec<u64>,
+    base: Vec<u64>,
+    carried: Vec<i64>,
+    out: Vec<u8>,
+    text: String,
+}
+
+/// The columns as pointers and lengths, all of them to write: a `*mut` serves where a `*const` is asked for.
+macro_rules! call {
+    ($function:ident, $r:expr $(, $more:expr)*) => {
+        unsafe {
+            raw::$function(
+                $r.bed.as_mut_ptr(), $r.bed.len(), $r.depth.as_mut_ptr(), $r.depth.len(),
+                $r.discharge.as_mut_ptr(), $r.discharge.len(), $r.mass.as_mut_ptr(), $r.mass.len(),
+                $r.base.as_mut_ptr(), $r.base.len(), $r.carried.as_mut_ptr(), $r.carried.len()
+                $(, $more)*
+            )
+        }
+    };
+}
+
+impl Record {
+    fn new(n: usize) -> Record {
+        Record {
+            bed: vec![0; n],
+            depth: vec![0; n],
+            discharge: vec![0; n],
+            mass: vec![0; n],
+            base: vec![0; n],
+            carried: vec![0; n + 1],
+            out: vec![0; sheet_size(n) + 10],
+            text: String::new(),
+        }
+    }
+
+    fn print(
+        &mut self,
+        call: &str,
+        refusal: u32,
+        ends: &[Boundary; 2],
+        k: &Ledger,
+        more: [u64; 2],
+    ) {
+        let t = &mut self.text;
+        write!(t, "{call} {refusal} {} {}", more[0], more[1]).unwrap();
+        for e in ends {
+            let Boundary {
+                kind,
+                reserved,
+                depth,
+                concentration,
+                discharge,
+            } = e;
+            write!(t, " {kind} {reserved} {depth} {concentration} {discharge}").unwrap();
+        }
+        for side in [&k.left, &k.right] {
+            let Totals {
+                water_in,
+                water_out,
+                mass_in,
+                mass_out,
+            } = side;
+            write!(t, " {water_in} {water_out} {mass_in} {mass_out}").unwrap();
+        }
+        for i in 0..self.bed.len() {
+            write!(
+                t,
+                " {} {} {}",
+                self.bed[i], self.depth[i], self.discharge[i]
+            )
+            .unwrap();
+            write!(t, " {} {} {}", self.mass[i], self.base[i], self.carried[i]).unwrap();
+        }
+        write!(t, " {}", self.carried[self.bed.len()]).unwrap();
+        for byte in &self.out {
+            write!(t, " {byte}").unwrap();
+        }
+        t.push('\n');
+    }
+
+    fn step(&mut self, x: u64, held: Ends, ledger: Ledger, t: u64) -> Ledger {
+        let s = call!(jemmyfern_step, self, x, held, ledger, t);
+        self.print("step", s.refusal, &s.ends, &s.ledger, [s.settled.into(), 0]);
+        s.ledger
+    }
+
+    fn write(&mut self, x: u64, held: Ends, ledger: Ledger, length: usize) {
+        let out = self.out.as_mut_ptr();
+        let a = call!(jemmyfern_write, self, x, held, ledger, out, length);
+        self.print("write", a.refusal, &a.ends, &a.ledger, [0, 0]);
+    }
+}
+
+/// The calls of header.c, in its order.
+fn calls(sheet: &[u8]) -> String {
+    let n = cells_in(sheet);
+    let mut r = Record::new(n);
+    let o = unsafe {
+        raw::jemmyfern_open(
+            sheet.as_ptr(),
+            sheet.len(),
+            r.bed.as_mut_ptr(),
+            n,
+            r.depth.as_mut_ptr(),
+            n,
+            r.discharge.as_mut_ptr(),
+            n,
+            r.mass.as_mut_ptr(),
+            n,
+            r.base.as_mut_ptr(),
+            n,
+            r.carried.as_mut_ptr(),
+            n + 1,
+        )
+    };
+    r.print("open", o.refusal, &o.ends, &o.ledger, [o.cell_length, 0]);
+    let (x, mut held, mut ledger) = (o.cell_length, Ends { ends: o.ends }, o.ledger);
+    let g = call!(jemmyfern_greatest_step, r, x, held, ledger);
+    r.print(
+        "greatest",
+        g.refusal,
+        &g.ends,
+        &g.ledger,
+        [g.time, g.place as u64],
+    );
+    for t in [g.time, 0, g.time, g.time + 1, 1_001] {
+        ledger = r.step(x, held, ledger, t);
+    }
+    r.write(x, held, ledger, sheet_size(n));
+    let turned = Ends {
+        ends: [held.ends[1], held.ends[0]],
+    };
+    let a = call!(jemmyfern_set_ends, r, x, held, ledger, turned);
+    r.print("set", a.refusal, &a.ends, &a.ledger, [0, 0]);
+    held.ends = a.ends;
+    ledger = r.step(x, held, a.ledger, 1);
+    let a = call!(jemmyfern_settle, r, x, held, ledger);
+    r.print("settle", a.refusal, &a.ends, &a.ledger, [0, 0]);
+    r.write(x, held, a.ledger, sheet_size(n) - 1);
+    r.write(x, held, a.ledger, sheet_size(n) + 10);
+    r.text
+}
+
+/// Sheets that open, two of them with a fed and an open end, and sheets that do not.
+fn sheets() -> Vec<Vec<u8>> {
+    let example = std::fs::read(cc::kept("examples/reach.sheet")).expect("the example's sheet");
+    let mut list = vec![example.clone(), example[..79].to_vec(), Vec::new()];
+    // edition, number of cells, cell length, an offset, an end's kind, a depth
+    for (at, byte) in [
+        (0, 2),
+        (8, 0),
+        (8, 41),
+        (12, 99),
+        (16, 79),
+        (32, 3),
+        (56, 0),
+        (56, 2),
+        (80 + 4 * 40 + 3, 255),
+    ] {
+        let mut damaged = example.clone();
+        damaged[at] = byte;
+        list.push(damaged);
+    }
+    list
+}
+
+#[test]
+fn the_header_and_the_declarations_agree() {
+    let folder = cc::folder("header");
+    let program = cc::compiled("rust/jemmyfern/src/header.c", "c11", &folder);
+    let mut opened = 0;
+    for sheet in sheets() {
+        let file = folder.join("a.sheet");
+        std::fs::write(&file, &sheet).unwrap();
+        let output = Command::new(&program).arg(&file).output().unwrap();
+        assert!(output.status.success());
+        let text = String::from_utf8(output.stdout).unwrap();
+        let expected = layouts() + &calls(&sheet);
+        assert_eq!(text, expected);
+        opened += usize::from(expected.contains("\nopen 0 "));
+    }
+    assert!(opened >= 2, "{opened}");
+    std::fs::remove_dir_all(&folder).unwrap();
+}

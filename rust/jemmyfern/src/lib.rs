@@ -1,0 +1,400 @@
+//! A reach of an irrigation canal in whole units: depth, discharge and nutrient along its cells, and a ledger of what passed its two ends.
+//!
+//! The calls are proved (see the repository's README for what that covers); this crate lends them the caller's slices and turns the paper's
+//! numbers of refusal into an enum. Nothing is allocated, and no standard library is needed.
+//!
+//! Units: bed level and depth in micrometres, discharge = depth times velocity in micrometres times mm/s, cell length in mm, time step in ms,
+//! concentration in micrograms per litre, mass in grains (one micrometre of depth at concentration 1).
+//!
+//! ```no_run
+//! use jemmyfern::{Columns, Reach};
+//! # fn main() -> Result<(), Box<dyn std::error::Error>> {
+//! let sheet = std::fs::read("reach.sheet")?;
+//! let (mut bed, mut depth, mut discharge) = ([0; 40], [0; 40], [0; 40]);
+//! let (mut mass, mut base, mut carried) = ([0; 40], [0; 40], [0; 41]);
+//! let columns = Columns {
+//!     bed: &mut bed,
+//!     depth: &mut depth,
+//!     discharge: &mut discharge,
+//!     mass: &mut mass,
+//!     base: &mut base,
+//!     carried: &mut carried,
+//! };
+//! let mut reach = Reach::open(&sheet, columns)?; // a sheet of 40 cells
+//! let t = reach.greatest_step()?.time;
+//! reach.step(t)?;
+//! println!("{:?}", reach.ledger);
+//! # Ok(())
+//! # }
+//! ```
+
+#![cfg_attr(not(test), no_std)]
+
+#[cfg(test)]
+mod header;
+mod raw;
+
+use core::fmt;
+
+/// The greatest number of cells.
+pub const CELLS_MOST: usize = 512;
+
+/// The greatest depth of a cell or a fed end, and size of carried water, micrometres.
+pub const DEPTH_MOST: u64 = 4_000_000;
+
+/// The greatest size of a velocity, mm/s: a discharge is at most this times the depth.
+pub const VELOCITY_MOST: u64 = 8_000;
+
+/// The greatest size of a bed level, micrometres.
+pub const BED_MOST: u64 = 100_000_000;
+
+/// The greatest concentration, micrograms per litre: a mass is at most this times the base depth.
+pub const CONCENTRATION_MOST: u64 = 500_000;
+
+/// The least and the greatest cell length, mm.
+pub const CELL_LENGTH_LEAST: u64 = 100;
+pub const CELL_LENGTH_MOST: u64 = 100_000;
+
+/// The greatest time step, ms.
+pub const TIME_STEP_MOST: u64 = 1_000;
+
+/// The greatest total of a ledger.
+pub const TOTAL_MOST: u64 = 1_000_000_000_000_000_000;
+
+/// Bytes of the sheet of `cells` cells.
+pub const fn sheet_size(cells: usize) -> usize {
+    80 + 24 * cells
+}
+
+/// The number of cells that a sheet says it has, to size the columns lent to its opening; 0 where it says none that can be. The opening
+/// looks again.
+pub fn cells_in(sheet: &[u8]) -> usize {
+    let field = sheet.get(8..12).and_then(|bytes| bytes.try_into().ok());
+    let n = field.map_or(0, u32::from_le_bytes) as usize;
+    if n <= CELLS_MOST {
+        n
+    } else {
+        0
+    }
+}
+
+/// What lies beyond an end of the reach.
+#[repr(C)]
+#[derive(Clone, Copy, Debug, PartialEq, Eq, Default)]
+pub struct Boundary {
+    /// 0 wall, 1 open, 2 fed
+    pub kind: u32,
+    /// always 0
+    pub reserved: u32,
+    /// micrometres; of a fed end alone
+    pub depth: u64,
+    /// micrograms per litre; of a fed or an open end
+    pub concentration: u64,
+    /// micrometres times mm/s, positive rightwards; of a fed end alone
+    pub discharge: i64,
+}
+
+impl Boundary {
+    /// No water passes.
+    pub const WALL: Boundary = Boundary {
+        kind: 0,
+        reserved: 0,
+        depth: 0,
+        concentration: 0,
+        discharge: 0,
+    };
+
+    /// Water passes as if the reach went on; what comes in has this concentration.
+    pub const fn open(concentration: u64) -> Boundary {
+        Boundary {
+            kind: 1,
+            concentration,
+            ..Boundary::WALL
+        }
+    }
+
+    /// Water of this depth, discharge and concentration stands beyond the end.
+    pub const fn fed(depth: u64, discharge: i64, concentration: u64) -> Boundary {
+        Boundary {
+            kind: 2,
+            reserved: 0,
+            depth,
+            concentration,
+            discharge,
+        }
+    }
+}
+
+/// What passed one end since the opening: water in micrometres of depth of a cell, mass in grains.
+#[repr(C)]
+#[derive(Clone, Copy, Debug, PartialEq, Eq, Default)]
+pub struct Totals {
+    pub water_in: u64,
+    pub water_out: u64,
+    pub mass_in: u64,
+    pub mass_out: u64,
+}
+
+/// What passed both ends since the opening.
+#[repr(C)]
+#[derive(Clone, Copy, Debug, PartialEq, Eq, Default)]
+pub struct Ledger {
+    pub left: Totals,
+    pub right: Totals,
+}
+
+/// Why a call was refused: the first of the paper's grounds, in its order, that the call does not stand. A refused call has changed nothing.
+#[derive(Clone, Copy, Debug, PartialEq, Eq, PartialOrd, Ord, Hash)]
+#[repr(u32)]
+pub enum Refusal {
+    /// The sheet is under 80 bytes or its edition is not 1.
+    Edition = 1,
+    /// n is outside 1..512, or the length field is not both the bytes given and 80+24n.
+    Size = 2,
+    /// An offset is under 80, a column passes the end, or two columns overlap.
+    Layout = 3,
+    /// The bed column's length is outside 1..512 (at opening: is not n), or another column's does not fit it.
+    Lengths = 4,
+    /// The cell length is outside 100..100,000 mm.
+    CellLength = 5,
+    /// An end, held or newly given, breaks its kind, or its reserved field is not 0.
+    Ends = 6,
+    /// A cell value is out of range.
+    Values = 7,
+    /// The carried water breaks its rules.
+    Carried = 8,
+    /// A total of the ledger exceeds 10^18.
+    Ledger = 9,
+    /// The time step is outside 1..1,000 ms.
+    TimeStep = 10,
+    /// The time step is too long for the fastest cell or fed end (CFL).
+    Cfl = 11,
+    /// A new depth would exceed 4,000,000 micrometres.
+    Depth = 12,
+    /// A total would pass 10^18 by this call.
+    Total = 13,
+    /// Writing: the record is not settled.
+    NotSettled = 14,
+    /// The output is shorter than the sheet.
+    ShortOutput = 15,
+}
+
+impl Refusal {
+    pub const ALL: [Refusal; 15] = [
+        Refusal::Edition,
+        Refusal::Size,
+        Refusal::Layout,
+        Refusal::Lengths,
+        Refusal::CellLength,
+        Refusal::Ends,
+        Refusal::Values,
+        Refusal::Carried,
+        Refusal::Ledger,
+        Refusal::TimeStep,
+        Refusal::Cfl,
+        Refusal::Depth,
+        Refusal::Total,
+        Refusal::NotSettled,
+        Refusal::ShortOutput,
+    ];
+
+    /// The paper's number.
+    pub const fn number(self) -> u32 {
+        self as u32
+    }
+
+    /// The ground in words.
+    pub const fn words(self) -> &'static str {
+        match self {
+            Refusal::Edition => "the sheet is under 80 bytes or its edition is not 1",
+            Refusal::Size => "the number of cells is outside 1..512, or the length field is not both the bytes given and 80 + 24 a cell",
+            Refusal::Layout => "an offset is under 80, a column passes the end, or two columns overlap",
+            Refusal::Lengths => "the lent columns do not have the lengths that the cells want",
+            Refusal::CellLength => "the cell length is outside 100..100000 mm",
+            Refusal::Ends => "an end breaks the rules of its kind",
+            Refusal::Values => "a cell value is out of range",
+            Refusal::Carried => "the carried water breaks its rules",
+            Refusal::Ledger => "a total of the ledger exceeds 10^18",
+            Refusal::TimeStep => "the time step is outside 1..1000 ms",
+            Refusal::Cfl => "the time step is too long for the fastest water (CFL)",
+            Refusal::Depth => "a depth would exceed 4000000 micrometres",
+            Refusal::Total => "a total of the ledger would pass 10^18 by this call",
+            Refusal::NotSettled => "the record is not settled",
+            Refusal::ShortOutput => "the output is shorter than the sheet",
+        }
+    }
+
+    /// The ground of a number of the paper's list.
+    pub fn from_number(number: u32) -> Option<Refusal> {
+        Refusal::ALL.into_iter().find(|r| r.number() == number)
+    }
+}
+
+impl fmt::Display for Refusal {
+    fn fmt(&self, f: &mut fmt::Formatter<'_>) -> fmt::Result {
+        write!(f, "refused {}: {}", self.number(), self.words())
+    }
+}
+
+impl core::error::Error for Refusal {}
+
+/// The columns that the caller lends: n entries each, n + 1 of carried water.
+#[derive(Debug)]
+pub struct Columns<'a> {
+    /// bed level z of each cell, -100,000,000..100,000,000 micrometres
+    pub bed: &'a mut [i64],
+    /// depth h, 0..4,000,000 micrometres
+    pub depth: &'a mut [u64],
+    /// discharge q, at most 8,000 times the depth either way
+    pub discharge: &'a mut [i64],
+    /// mass m, at most 500,000 times the base depth
+    pub mass: &'a mut [u64],
+    /// base depth b: the depth at the last settling
+    pub base: &'a mut [u64],
+    /// carried water c of each interface since the last settling, positive rightwards
+    pub carried: &'a mut [i64],
+}
+
+/// What an accepted step tells beside the new record.
+#[derive(Clone, Copy, Debug, PartialEq, Eq)]
+pub struct Stepped {
+    /// the nutrient settled first
+    pub settled: bool,
+}
+
+/// The greatest time step that the record allows.
+#[derive(Clone, Copy, Debug, PartialEq, Eq)]
+pub struct Greatest {
+    /// ms, 1..1,000
+    pub time: u64,
+    /// where the water is fastest: 0 the left end, 1..n the cells, n + 1 the right end
+    pub place: usize,
+}
+
+/// An open reach: the lent columns, and what travels with them from call to call. A sheet holds no ledger: each opening starts all totals at 0.
+#[derive(Debug)]
+pub struct Reach<'a> {
+    pub columns: Columns<'a>,
+    /// mm
+    pub cell_length: u64,
+    /// left, right
+    pub ends: [Boundary; 2],
+    pub ledger: Ledger,
+}
+
+/// The library's numbers are 0 to 15, and that is proved.
+fn refused(number: u32) -> Result<(), Refusal> {
+    match number {
+        0 => Ok(()),
+        _ => Err(Refusal::from_number(number).expect("a ground of the list")),
+    }
+}
+
+/// Calls a C function with the record: `$water` and `$slice` say how depth and discharge, and how the other three columns are lent.
+macro_rules! call {
+    ($function:ident, $reach:expr, $water:ident, $slice:ident $(, $more:expr)*) => {{
+        let Reach { columns: c, cell_length, ends, ledger } = $reach;
+        // SAFETY: each pointer comes with the length of its slice (of an empty one it is aligned and not read); no two overlap, since the
+        // columns and the output are lent exclusively
+        unsafe {
+            raw::$function(
+                c.bed.as_ptr(), c.bed.len(),
+                c.depth.$water(), c.depth.len(),
+                c.discharge.$water(), c.discharge.len(),
+                c.mass.$slice(), c.mass.len(),
+                c.base.$slice(), c.base.len(),
+                c.carried.$slice(), c.carried.len(),
+                *cell_length, raw::Ends { ends: *ends }, *ledger $(, $more)*
+            )
+        }
+    }};
+}
+
+impl<'a> Reach<'a> {
+    /// Opens a sheet into the lent columns, which must have the lengths of its cells. A refused opening leaves the columns as they came.
+    pub fn open(sheet: &[u8], columns: Columns<'a>) -> Result<Reach<'a>, Refusal> {
+        let c = columns;
+        // SAFETY: as in `call`
+        let o = unsafe {
+            raw::jemmyfern_open(
+                sheet.as_ptr(),
+                sheet.len(),
+                c.bed.as_mut_ptr(),
+                c.bed.len(),
+                c.depth.as_mut_ptr(),
+                c.depth.len(),
+                c.discharge.as_mut_ptr(),
+                c.discharge.len(),
+                c.mass.as_mut_ptr(),
+                c.mass.len(),
+                c.base.as_mut_ptr(),
+                c.base.len(),
+                c.carried.as_mut_ptr(),
+                c.carried.len(),
+            )
+        };
+        refused(o.refusal)?;
+        Ok(Reach {
+            columns: c,
+            cell_length: o.cell_length,
+            ends: o.ends,
+            ledger: o.ledger,
+        })
+    }
+
+    /// The number of cells.
+    pub fn cells(&self) -> usize {
+        self.columns.bed.len()
+    }
+
+    /// One water step of `t` ms, with a settling before it where the paper's test asks for one.
+    pub fn step(&mut self, t: u64) -> Result<Stepped, Refusal> {
+        let a = call!(jemmyfern_step, &mut *self, as_mut_ptr, as_mut_ptr, t);
+        refused(a.refusal)?;
+        (self.ends, self.ledger) = (a.ends, a.ledger);
+        Ok(Stepped { settled: a.settled })
+    }
+
+    /// Moves the nutrient with the water carried since the last settling.
+    pub fn settle(&mut self) -> Result<(), Refusal> {
+        let a = call!(jemmyfern_settle, &mut *self, as_ptr, as_mut_ptr);
+        self.take(a)
+    }
+
+    /// Sets both ends, settling first under those held so far.
+    pub fn set_ends(&mut self, ends: [Boundary; 2]) -> Result<(), Refusal> {
+        let new = raw::Ends { ends };
+        let a = call!(jemmyfern_set_ends, &mut *self, as_ptr, as_mut_ptr, new);
+        self.take(a)
+    }
+
+    fn take(&mut self, a: raw::Answer) -> Result<(), Refusal> {
+        refused(a.refusal)?;
+        (self.ends, self.ledger) = (a.ends, a.ledger);
+        Ok(())
+    }
+
+    /// The greatest time step that the record allows now.
+    pub fn greatest_step(&self) -> Result<Greatest, Refusal> {
+        let a = call!(jemmyfern_greatest_step, self, as_ptr, as_ptr);
+        refused(a.refusal)?;
+        Ok(Greatest {
+            time: a.time,
+            place: a.place,
+        })
+    }
+
+    /// Writes the settled record as a sheet at the start of `out`, and tells the sheet's length; bytes behind it keep their values.
+    pub fn write(&self, out: &mut [u8]) -> Result<usize, Refusal> {
+        let a = call!(
+            jemmyfern_write,
+            self,
+            as_ptr,
+            as_ptr,
+            out.as_mut_ptr(),
+            out.len()
+        );
+        refused(a.refusal)?;
+        Ok(sheet_size(self.cells()))
+    }
+}
