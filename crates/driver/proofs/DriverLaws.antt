@@ -20,12 +20,13 @@ use Rattle.stepping.specs.declared.Greatest.{Greatest}
 use Rattle.stepping.specs.declared.step.Stepped.{Stepped}
 use Rattle.sheet.specs.Opening.{opening, sheetRecord, lent, OpenCameTo}
 use Rattle.sheet.specs.declared.opening.Opened.{Opened}
+use Rattle.sheet.proofs.OpeningLaws.{by-opening, left-by-opening}
 use Rattle.writing.specs.Writing.{WriteCameTo}
 use Rattle.writing.specs.declared.write.Written.{Written}
 use Rattle.tally.specs.Call.{Call, stepBy, settle, setEnds, askGreatest, writeInto, reopen, final}
 use Rattle.tally.specs.Tally.{start, run}
 use Rattle.tally.specs.Holds.{Holds}
-use Rattle.tally.proofs.CallLaws.{step-next, settle-next, setting-next, greatest-next, write-next, open-next, open-number, by-opening}
+use Rattle.tally.proofs.CallLaws.{step-next, settle-next, setting-next, greatest-next, write-next, open-next, open-number}
 use Rattle.tally.proofs.TallyLaws.{of-definitions}
 use Rattle.script.specs.Script.{part, callOf, callAt, callsFrom, script}
 use Rattle.driver.specs.Replay.{cameTo, Plays, flag, noted, World, world, playedOne, playedFrom, ReplayCameTo}
@@ -185,12 +186,6 @@ played-reach w j [] = refl
 played-reach w j (c ∷ cs) = played-reach (playedOne w j c) (suc j) cs
 
 -- ---- the first opening
-
--- the record that it left in the columns
-pub left-by-opening : {o : Outcome} {r : Opened} {z : List ℤ} {h : List ℕ} {q : List ℤ} {m b : List ℕ} {c : List ℤ} → OpenCameTo o r z h q m b c
-    → reachOf z h q m b c (r .«cell_length») (r .ends) (r .ledger) ≡ o .reach
-left-by-opening k =
-    rw (k .bed-is, k .depth-is, k .discharge-is, k .mass-is, k .base-is, k .carried-is, k .length-is, k .ends-are, k .ledger-is) refl
 
 -- a refused one leaves what was lent
 unopened : (sheet : List ℕ) (l : Reach) → (opening sheet l .refusal ≡ 0 → ⊥) → opening sheet l .reach ≡ l

@@ -56,12 +56,6 @@ pub steps-done : (count i t : ℕ) (s : Reach) → i ≤ count → count ≤ i �
 unfolding steps
 steps-done count i t s l m = let k : count - i ≡ 0 = omega arith in rw k refl
 
--- the record that an opening left in the columns
-pub left-by-opening : {o : Outcome} {r : Opened} {z : List ℤ} {h : List ℕ} {q : List ℤ} {m b : List ℕ} {c : List ℤ} → OpenCameTo o r z h q m b c
-    → reachOf z h q m b c (r .«cell_length») (r .ends) (r .ledger) ≡ o .reach
-left-by-opening {o} k =
-    rw (k .bed-is, k .depth-is, k .discharge-is, k .mass-is, k .base-is, k .carried-is, k .length-is, k .ends-are, k .ledger-is) refl
-
 -- what a play left, by the record in its columns
 pub left : {o : Outcome} {r : Ran} (z : List ℤ) (h : List ℕ) (q : List ℤ) (m b : List ℕ) (c : List ℤ) (X : ℕ) (es : List Boundary) {k : Ledger}
     → r .refusal ≡ o .refusal → r .ledger ≡ k → reachOf z h q m b c X es k ≡ o .reach → PlayedTo o r z h q m b c

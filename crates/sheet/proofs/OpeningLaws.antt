@@ -12,7 +12,7 @@ use lib.ListN.{length, getD, replicate, getD-replicate, length-replicate}
 use Rattle.numbers.specs.Index.{allOf, allBelow, tabulate}
 use Rattle.numbers.proofs.IndexLaws.{and-left, and-right, all-of, all-same, length-tabulate, getD-tabulate}
 use Rattle.reach.specs.Limits.{cellsMost}
-use Rattle.reach.specs.Reach.{Reach}
+use Rattle.reach.specs.Reach.{Reach, reachOf}
 use Rattle.reach.specs.Grounds.{ground, firstRefusal, cellLengthFits, boundariesFit, cellFits, cellsFit, totalsFit, ledgerFits, recordGrounds}
 use Rattle.reach.specs.Outcome.{Outcome, outcome}
 use Rattle.reach.specs.declared.boundary.Boundary.{Boundary}
@@ -125,8 +125,21 @@ unfolding numbered
 all-numbered s l = refl
 
 module _ (s : List ℕ) (l : Reach) where
-  abbrev check : Check
+  -- what grounds 1 to 7 say of the sheet and of columns as long as those of l
+  abbrev pub check : Check
   check = firstRefusal (openGrounds s (length (l .bed)) (length (l .depth)) (length (l .discharge)) (length (l .mass)) (length (l .base)) (length (l .carried)))
+
+  -- every statement about it, by the two ways it can go
+  pub by-opening : (P : Check → Type 0) → ((n : ℕ) → 0 < n → P (Refused n)) → (check ≡ Pass → P Pass) → P check
+  by-opening P stays opens = go check refl
+    where
+      go : (k : Check) → check ≡ k → P k
+      go Pass e = opens e
+      go (Refused n) e = stays n (refused-number _ n (all-numbered s l) e)
+
+  pub opened-passes : opening s l .refusal ≡ 0 → check ≡ Pass
+  unfolding opening
+  opened-passes = by-opening (λ k. outcome k l (sheetRecord s) .refusal ≡ 0 → k ≡ Pass) (λ n p z. absurd (omega arith)) (λ e z. refl)
 
   pub stopped : (n : ℕ) → check ≡ Refused n → opening s l ≡ record { refusal = n; reach = l }
   unfolding opening
@@ -198,9 +211,12 @@ module _ (s : List ℕ) (z h q m b c : ℕ) (e : firstRefusal (openGrounds s z h
 
 pub opened-stands : (s : List ℕ) (l : Reach) (gs : List Boundary) → opening s l .refusal ≡ 0 → boundariesFit gs ≡ true
     → firstRefusal (recordGrounds (opening s l .reach) gs) ≡ Pass
-unfolding opening
-opened-stands s l gs e g = go (check s l) refl e
-  where
-    go : (k : Check) → check s l ≡ k → outcome k l (sheetRecord s) .refusal ≡ 0 → firstRefusal (recordGrounds (outcome k l (sheetRecord s) .reach) gs) ≡ Pass
-    go Pass p z = stands (sheetRecord s) gs (opened-sound s _ _ _ _ _ _ p) g
-    go (Refused n) p z = absurd (omega (arith, z, refused-number _ n (all-numbered s l) p))
+opened-stands s l gs e g =
+    let p = opened-passes s l e in
+    rw (accepted s l p) (stands (sheetRecord s) gs (opened-sound s _ _ _ _ _ _ p) g)
+
+-- the record that an opening left in the columns, with X, ends and ledger of its answer
+pub left-by-opening : {o : Outcome} {r : Opened} {z : List ℤ} {h : List ℕ} {q : List ℤ} {m b : List ℕ} {c : List ℤ} → OpenCameTo o r z h q m b c
+    → reachOf z h q m b c (r .«cell_length») (r .ends) (r .ledger) ≡ o .reach
+left-by-opening {o} k =
+    rw (k .bed-is, k .depth-is, k .discharge-is, k .mass-is, k .base-is, k .carried-is, k .length-is, k .ends-are, k .ledger-is) refl

@@ -14,7 +14,6 @@ use Rattle.reach.specs.Outcome.{Outcome, outcome}
 use Rattle.reach.specs.declared.boundary.Boundary.{Boundary}
 use Rattle.reach.specs.declared.refusal.Check.{Check}
 use Rattle.reach.specs.declared.refusal.Check.the-variants.{Pass, Refused}
-use Rattle.reach.proofs.GroundsLaws.{numbered, refused-number}
 use Rattle.transport.specs.Calls.{transported, transport, setBoundaries, CameTo}
 use Rattle.transport.specs.declared.Answer.{Answer}
 use Rattle.transport.proofs.CallsLaws.{by-outcome}
@@ -25,6 +24,7 @@ use Rattle.stepping.specs.declared.step.Stepped.{Stepped}
 use Rattle.stepping.proofs.StepLaws.{by-step}
 use Rattle.sheet.specs.Opening.{opening, openGrounds, sheetRecord, lent, OpenCameTo}
 use Rattle.sheet.specs.declared.opening.Opened.{Opened}
+use Rattle.sheet.proofs.OpeningLaws.{by-opening}
 use Rattle.writing.specs.Writing.{WriteCameTo}
 use Rattle.writing.specs.declared.write.Written.{Written}
 use Rattle.tally.specs.Call.{next, stepBy, settle, setEnds, askGreatest, writeInto, reopen, goesOn}
@@ -82,24 +82,6 @@ write-next s room k = rw (k .ends-are, k .ledger-is) refl
 -- an opening looks at no more of the record than the lengths of its columns
 abbrev lentOf : Reach → Reach
 lentOf s = lent (s .bed) (s .depth) (s .discharge) (s .mass) (s .base) (s .carried)
-
--- what grounds 1 to 7 say of a sheet and of columns as long as those of s
-abbrev pub openCheck : (sheet : List ℕ) → Reach → Check
-openCheck sheet s = firstRefusal (openGrounds sheet (length (s .bed)) (length (s .depth)) (length (s .discharge)) (length (s .mass)) (length (s .base)) (length (s .carried)))
-
-all-numbered : (sheet : List ℕ) (s : Reach)
-    → numbered (openGrounds sheet (length (s .bed)) (length (s .depth)) (length (s .discharge)) (length (s .mass)) (length (s .base)) (length (s .carried))) ≡ true
-unfolding numbered
-all-numbered sheet s = refl
-
--- every statement about it, by the two ways it can go
-pub by-opening : (sheet : List ℕ) (s : Reach) (P : Check → Type 0)
-    → ((n : ℕ) → 0 < n → P (Refused n)) → (openCheck sheet s ≡ Pass → P Pass) → P (openCheck sheet s)
-by-opening sheet s P stays opens = go (openCheck sheet s) refl
-  where
-    go : (k : Check) → openCheck sheet s ≡ k → P k
-    go Pass e = opens e
-    go (Refused n) e = stays n (refused-number _ n (all-numbered sheet s) e)
 
 pub open-next : (s : Reach) (sheet : List ℕ) {r : Opened} {z : List ℤ} {h : List ℕ} {q : List ℤ} {m b : List ℕ} {c : List ℤ}
     → OpenCameTo (opening sheet (lentOf s)) r z h q m b c → goesOn s r z h q m b c ≡ next s (reopen sheet)

@@ -29,10 +29,10 @@ use Rattle.stepping.specs.Step.{keepsSums, settledFirst, withWater, withEndWate
 use Rattle.stepping.proofs.StepLaws.{by-step, depth-not-negative, step-water-balanced, step-mass-balanced, step-within}
 use Rattle.sheet.specs.Header.{endsOf}
 use Rattle.sheet.specs.Opening.{sheetRecord, opening}
+use Rattle.sheet.proofs.OpeningLaws.{by-opening}
 use Rattle.tally.specs.Call.{Call, stepBy, settle, setEnds, askGreatest, writeInto, reopen, refusalOf, next, final}
 use Rattle.tally.specs.Tally.{Step, Tally, addWater, addMass, addStep, withSums, start, afterStep, afterSettling, afterSetting, accepted, unless, count, run}
 use Rattle.tally.specs.Holds.{Each, DepthsFromZero, Accounts, Holds, OfDefinitions}
-use Rattle.tally.proofs.CallLaws.{openCheck, by-opening}
 
 -- ---- the tally's sums are the ledger of the definitions: document 01 gives each once as a book and once as a tally
 

@@ -19,13 +19,13 @@ use Rattle.reach.specs.Outcome.{Outcome, outcome}
 use Rattle.reach.specs.declared.boundary.Boundary.{Boundary}
 use Rattle.reach.specs.declared.refusal.Check.{Check}
 use Rattle.reach.specs.declared.refusal.Check.the-variants.{Pass, Refused}
-use Rattle.reach.proofs.GroundsLaws.{stood, go-on, further, passed-first, numbered, refused-number}
+use Rattle.reach.proofs.GroundsLaws.{stood, go-on, further, passed-first}
 use Rattle.reach.proofs.Sound.{boundary-sound, CarriedSound, Sound, sound, stands}
 use Rattle.sheet.specs.Bytes.{numberAt, twos, columnAt}
 use Rattle.sheet.specs.Header.{sheetSize, editionOf, lengthOf, countOf, cellLengthOf, bedsAt, depthsAt, dischargesAt, massesAt, boundaryAt, endsOf, editionFits, sizeFits, Span, span, inside, apart, columnsClear, spansOf}
 use Rattle.sheet.specs.Opening.{emptyLedger, sheetRecord, lentFit, openGrounds, opening}
 use Rattle.sheet.proofs.HeaderLaws.{four-clear}
-use Rattle.sheet.proofs.OpeningLaws.{accepted, opened-sound}
+use Rattle.sheet.proofs.OpeningLaws.{accepted, opened-passes, opened-sound}
 use Rattle.writing.specs.Bytes.{bitsIn, bits, columnBytes, written}
 use Rattle.writing.specs.Writing.{boundaryBytes, bedsFrom, depthsFrom, dischargesFrom, massesFrom, headerBytes, sheetBytes, settledFits, roomFits, writeGrounds, outputBy, writeRefusal, outputAfter}
 use Rattle.writing.specs.RoundTrip.{LentFor, withEmptyLedger, ReadsBack, InWritersOrder, WrittenAgain}
@@ -494,18 +494,6 @@ write-passes r room e f g = further (recordGrounds r (r .ends)) _ e ∙ go-on _ 
 module _ (s : List ℕ) (l : Reach) where
   abbrev grounds : List Ground
   grounds = openGrounds s (length (l .bed)) (length (l .depth)) (length (l .discharge)) (length (l .mass)) (length (l .base)) (length (l .carried))
-
-  all-numbered : numbered grounds ≡ true
-  unfolding numbered
-  all-numbered = refl
-
-  opened-passes : opening s l .refusal ≡ 0 → firstRefusal grounds ≡ Pass
-  unfolding opening
-  opened-passes e = go (firstRefusal grounds) refl e
-    where
-      go : (k : Check) → firstRefusal grounds ≡ k → outcome k l (sheetRecord s) .refusal ≡ 0 → firstRefusal grounds ≡ Pass
-      go Pass p z = p
-      go (Refused n) p z = absurd (omega (arith, z, refused-number grounds n all-numbered p))
 
 -- columns that are clear of each other lie one behind the other by their starts
 before : (a b : Span) → apart a b ≡ true → a .start < b .start → a .start + a .size ≤ b .start

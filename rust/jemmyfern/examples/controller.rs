@@ -5,6 +5,7 @@
 
 use jemmyfern::{cells_in, sheet_size, Boundary, Columns, Reach, Totals, CELLS_MOST};
 use std::error::Error;
+use std::fmt;
 use std::process::ExitCode;
 
 const HOUR_MS: u64 = 3_600_000;
@@ -46,6 +47,18 @@ impl Memory {
         }
     }
 }
+
+/// A file that could not be read or written.
+#[derive(Debug)]
+struct NoFile(String);
+
+impl fmt::Display for NoFile {
+    fn fmt(&self, f: &mut fmt::Formatter<'_>) -> fmt::Result {
+        f.write_str(&self.0)
+    }
+}
+
+impl Error for NoFile {}
 
 /// The head's dose: the left end as it is, with another concentration.
 fn with_dose(ends: [Boundary; 2], concentration: u64) -> [Boundary; 2] {
@@ -90,7 +103,7 @@ fn same_record(a: &Reach, b: &Reach) -> bool {
 }
 
 fn run(from: &str, to: &str) -> Result<(), Box<dyn Error>> {
-    let sheet = std::fs::read(from).map_err(|error| format!("{from}: {error}"))?;
+    let sheet = std::fs::read(from).map_err(|error| NoFile(format!("{from}: {error}")))?;
     let mut memory = Memory::new();
     let mut reach = Reach::open(&sheet, memory.lend(cells_in(&sheet)))?;
     println!("cells {} of {} mm", reach.cells(), reach.cell_length);
@@ -101,7 +114,7 @@ fn run(from: &str, to: &str) -> Result<(), Box<dyn Error>> {
     let mut out = [0; sheet_size(CELLS_MOST)];
     let length = reach.write(&mut out)?;
     let written = &out[..length];
-    std::fs::write(to, written).map_err(|error| format!("{to}: {error}"))?;
+    std::fs::write(to, written).map_err(|error| NoFile(format!("{to}: {error}")))?;
     let mut again = Memory::new();
     let opened = Reach::open(written, again.lend(cells_in(written)))?;
     if !same_record(&reach, &opened) {
@@ -121,7 +134,7 @@ fn main() -> ExitCode {
         Ok(()) => ExitCode::SUCCESS,
         Err(error) => {
             eprintln!("{error}");
-            ExitCode::FAILURE
+            ExitCode::from(if error.is::<NoFile>() { 3 } else { 1 })
         }
     }
 }

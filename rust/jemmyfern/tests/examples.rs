@@ -97,7 +97,7 @@ fn both_controllers_follow_the_hour() {
             .arg(&out)
             .output()
             .unwrap();
-        assert!(!none.status.success());
+        assert_eq!(none.status.code(), Some(3), "{none:?}");
         let usage = Command::new(&program).output().unwrap();
         assert_eq!(usage.status.code(), Some(2));
     }

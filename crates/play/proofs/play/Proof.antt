@@ -11,7 +11,8 @@ use Rattle.transport.specs.Calls.{transport}
 use Rattle.sheet.specs.Opening.{lent, opening}
 use Rattle.play.specs.Play.{steps, played}
 use Rattle.play.specs.Ranges.{PlayedTo}
-use Rattle.play.proofs.PlayLaws.{left-by-opening, left-by-transport, left, not-opened, too-many, not-stepped, settled}
+use Rattle.sheet.proofs.OpeningLaws.{left-by-opening}
+use Rattle.play.proofs.PlayLaws.{left-by-transport, left, not-opened, too-many, not-stepped, settled}
 use Rattle.play.proofs.play.Statement.{statement}
 use Rattle.play.proofs.play.Tie as tie
 
