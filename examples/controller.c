@@ -49,7 +49,7 @@ static uint32_t set_dose(struct reach *r, uint64_t concentration)
 {
     jemmyfern_ends next = r->ends;
     next.ends[0].concentration = concentration;
-    jemmyfern_answer a = jemmyfern_set_ends(COLUMNS(r), r->cell_length, r->ends, r->ledger, next);
+    jemmyfern_answer a = jemmyfern_set_boundaries(COLUMNS(r), r->cell_length, r->ends, r->ledger, next);
     r->ends = a.ends;
     r->ledger = a.ledger;
     return a.refusal;
@@ -124,7 +124,7 @@ int main(int argc, char **argv)
         steps++;
         settlings += s.settled;
     }
-    jemmyfern_answer a = jemmyfern_settle(COLUMNS(&reach), reach.cell_length, reach.ends, reach.ledger);
+    jemmyfern_answer a = jemmyfern_transport(COLUMNS(&reach), reach.cell_length, reach.ends, reach.ledger);
     if (a.refusal != 0)
         return refused("settle", a.refusal);
     reach.ends = a.ends;

@@ -174,13 +174,13 @@ jemmyfern_stepped jemmyfern_step(const int64_t *bed, size_t bed_length, uint64_t
                                  uint64_t cell_length, jemmyfern_ends held, jemmyfern_ledger ledger, uint64_t t);
 
 /* Moves the nutrient with the water carried since the last settling. */
-jemmyfern_answer jemmyfern_settle(const int64_t *bed, size_t bed_length, const uint64_t *depth, size_t depth_length,
+jemmyfern_answer jemmyfern_transport(const int64_t *bed, size_t bed_length, const uint64_t *depth, size_t depth_length,
                                   const int64_t *discharge, size_t discharge_length, uint64_t *mass, size_t mass_length,
                                   uint64_t *base, size_t base_length, int64_t *carried, size_t carried_length,
                                   uint64_t cell_length, jemmyfern_ends held, jemmyfern_ledger ledger);
 
 /* Sets both ends, settling first under those held so far. */
-jemmyfern_answer jemmyfern_set_ends(const int64_t *bed, size_t bed_length, const uint64_t *depth, size_t depth_length,
+jemmyfern_answer jemmyfern_set_boundaries(const int64_t *bed, size_t bed_length, const uint64_t *depth, size_t depth_length,
                                     const int64_t *discharge, size_t discharge_length, uint64_t *mass, size_t mass_length,
                                     uint64_t *base, size_t base_length, int64_t *carried, size_t carried_length,
                                     uint64_t cell_length, jemmyfern_ends held, jemmyfern_ledger ledger,

@@ -37,13 +37,13 @@ static void step(void)
 
 static void set_ends(void)
 {
-    jemmyfern_answer a = jemmyfern_set_ends(COLUMNS, cell_length, ends, ledger, ends);
+    jemmyfern_answer a = jemmyfern_set_boundaries(COLUMNS, cell_length, ends, ledger, ends);
     refusal = a.refusal, ledger = a.ledger;
 }
 
 static void settle(void)
 {
-    jemmyfern_answer a = jemmyfern_settle(COLUMNS, cell_length, ends, ledger);
+    jemmyfern_answer a = jemmyfern_transport(COLUMNS, cell_length, ends, ledger);
     refusal = a.refusal, ledger = a.ledger;
 }
 

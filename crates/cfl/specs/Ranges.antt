@@ -12,7 +12,7 @@ pub record Flowing (h : ℕ) (q : ℤ) : Type 0 where
   pub discharge : natAbs q ≤ velocityMost * h
 
 -- of every cell
-pub record Columns (h : List ℕ) (q : List ℤ) : Type 0 where
+pub record FlowColumns (h : List ℕ) (q : List ℤ) : Type 0 where
   pub long : length q ≡ length h
   -- far above any reach: a place fits its type
   pub few : length h ≤ 1_000_000

@@ -4,7 +4,7 @@ ghost use Prim.Native.Nat.{_+_, _≤_};
 ghost use lib.ListN.{length};
 ghost use Rattle.flux.specs.Limits.{cellLengthLeast, cellLengthMost};
 ghost use Rattle.cfl.specs.Cfl.{signalSpeed, speedAt, stepFor, fastestPlace};
-ghost use Rattle.cfl.specs.Ranges.{Flowing, Columns};
+ghost use Rattle.cfl.specs.Ranges.{Flowing, FlowColumns};
 use flux::velocity::velocity_parts;
 use flux::wave::wave_speed;
 
@@ -24,16 +24,16 @@ pub struct Fastest {
 }
 
 // Among all cells and both boundaries, whose speeds are given
-pub fn fastest_of(h: &[u64], q: &[i64], left: u64, right: u64) -> Fastest
-    requires { ⌜ Columns (now h) (now q) ⌝ }
-    ensures { λ r. ⌜ (r .place ≡ fastestPlace (speedAt (now (h .entry)) (now (q .entry)) left right) (length (now (h .entry)) + 1)) × (r .speed ≡ speedAt (now (h .entry)) (now (q .entry)) left right (r .place)) ⌝ }
+pub fn fastest_of(depth: &[u64], discharge: &[i64], left: u64, right: u64) -> Fastest
+    requires { ⌜ FlowColumns (now depth) (now discharge) ⌝ }
+    ensures { λ r. ⌜ (r .place ≡ fastestPlace (speedAt (now (depth .entry)) (now (discharge .entry)) left right) (length (now (depth .entry)) + 1)) × (r .speed ≡ speedAt (now (depth .entry)) (now (discharge .entry)) left right (r .place)) ⌝ }
 {
-    let n = h.len();
+    let n = depth.len();
     let mut place = 0;
     let mut speed = left;
     let mut i = 0;
     while i < n {
-        let v = signal_speed(h[i], q[i]);
+        let v = signal_speed(depth[i], discharge[i]);
         if speed < v {
             speed = v;
             place = i + 1;

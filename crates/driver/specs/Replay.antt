@@ -10,10 +10,10 @@ use Rattle.reach.specs.Reach.{Reach, reachOf}
 use Rattle.reach.specs.declared.boundary.Boundary.{Boundary}
 use Rattle.reach.specs.declared.ledger.Ledger.{Ledger}
 use Rattle.stepping.specs.GreatestStep.{greatest}
-use Rattle.stepping.specs.Step.{settles}
+use Rattle.stepping.specs.Step.{transports}
 use Rattle.sheet.specs.Opening.{opening, lent}
 use Rattle.writing.specs.Writing.{outputAfter}
-use Rattle.tally.specs.Call.{Call, stepBy, settle, setEnds, askGreatest, writeInto, reopen, refusalOf, next}
+use Rattle.tally.specs.Call.{Call, stepCall, transportCall, boundariesCall, greatestCall, writeCall, openCall, refusalOf, next}
 use Rattle.tally.specs.Tally.{start, run}
 use Rattle.tally.specs.Holds.{Holds}
 use Rattle.script.specs.Script.{callAt, script}
@@ -22,50 +22,50 @@ use Rattle.driver.specs.declared.Replayed.{Replayed}
 
 -- ---- what a call answers beside its number, and what it makes of the output
 
-abbrev pub settledBy : Reach → Call → Bool
-settledBy s (stepBy t) = settles s t
-settledBy s settle = false
-settledBy s (setEnds es) = false
-settledBy s askGreatest = false
-settledBy s (writeInto room) = false
-settledBy s (reopen sheet) = false
+abbrev pub transportedBy : Reach → Call → Bool
+transportedBy s (stepCall t) = transports s t
+transportedBy s transportCall = false
+transportedBy s (boundariesCall es) = false
+transportedBy s greatestCall = false
+transportedBy s (writeCall room) = false
+transportedBy s (openCall sheet) = false
 
 abbrev pub timeBy : Reach → Call → ℕ
-timeBy s (stepBy t) = 0
-timeBy s settle = 0
-timeBy s (setEnds es) = 0
-timeBy s askGreatest = greatest s .time
-timeBy s (writeInto room) = 0
-timeBy s (reopen sheet) = 0
+timeBy s (stepCall t) = 0
+timeBy s transportCall = 0
+timeBy s (boundariesCall es) = 0
+timeBy s greatestCall = greatest s .time
+timeBy s (writeCall room) = 0
+timeBy s (openCall sheet) = 0
 
 abbrev pub placeBy : Reach → Call → ℕ
-placeBy s (stepBy t) = 0
-placeBy s settle = 0
-placeBy s (setEnds es) = 0
-placeBy s askGreatest = greatest s .place
-placeBy s (writeInto room) = 0
-placeBy s (reopen sheet) = 0
+placeBy s (stepCall t) = 0
+placeBy s transportCall = 0
+placeBy s (boundariesCall es) = 0
+placeBy s greatestCall = greatest s .place
+placeBy s (writeCall room) = 0
+placeBy s (openCall sheet) = 0
 
 -- a write is lent the first `room` bytes of the output
 abbrev pub outputBy : Reach → Call → (out : List ℕ) → List ℕ
-outputBy s (stepBy t) out = out
-outputBy s settle out = out
-outputBy s (setEnds es) out = out
-outputBy s askGreatest out = out
-outputBy s (writeInto room) out = outputAfter s (take room out) ++ drop room out
-outputBy s (reopen sheet) out = out
+outputBy s (stepCall t) out = out
+outputBy s transportCall out = out
+outputBy s (boundariesCall es) out = out
+outputBy s greatestCall out = out
+outputBy s (writeCall room) out = outputAfter s (take room out) ++ drop room out
+outputBy s (openCall sheet) out = out
 
 -- the answer of a call that gives no more than its number
 abbrev pub cameTo : (refusal X : ℕ) → List Boundary → Ledger → Played
-cameTo n X es k = record { refusal = n; settled = false; time = 0; place = 0; «cell_length» = X; ends = es; ledger = k }
+cameTo n X es k = record { refusal = n; transported = false; time = 0; place = 0; «cell_length» = X; boundaries = es; ledger = k }
 
 -- one call came out as the definitions say: every field of its answer, the record, and the output
 pub record Plays (s : Reach) (c : Call) (out : List ℕ) (r : Played) (z : List ℤ) (h : List ℕ) (q : List ℤ) (m b : List ℕ) (k : List ℤ) (out' : List ℕ) : Type 0 where
   pub refusal-is : r .refusal ≡ refusalOf s c
-  pub settled-is : r .settled ≡ settledBy s c
+  pub transported-is : r .transported ≡ transportedBy s c
   pub time-is : r .time ≡ timeBy s c
   pub place-is : r .place ≡ placeBy s c
-  pub reach-is : reachOf z h q m b k (r .«cell_length») (r .ends) (r .ledger) ≡ next s c
+  pub reach-is : reachOf z h q m b k (r .«cell_length») (r .boundaries) (r .ledger) ≡ next s c
   pub output-is : out' ≡ outputBy s c out
 
 -- ---- a list of them
@@ -76,9 +76,9 @@ flag false = 0
 flag true = 1
 
 -- four words an answer, as far as there is room: its number, whether the step settled, the greatest time step and its place
-unfoldable pub noted : (answers : List ℕ) (j refusal settled time place : ℕ) → List ℕ
-noted a j refusal settled time place =
-    set (set (set (set a (4 * j) refusal) (4 * j + 1) settled) (4 * j + 2) time) (4 * j + 3) place
+unfoldable pub noted : (answers : List ℕ) (j refusal transported time place : ℕ) → List ℕ
+noted a j refusal transported time place =
+    set (set (set (set a (4 * j) refusal) (4 * j + 1) transported) (4 * j + 2) time) (4 * j + 3) place
 
 pub record World : Type 0 where
   pub reach : Reach
@@ -92,7 +92,7 @@ world s out a = record { reach = s; out = out; answers = a }
 unfoldable pub playedOne : World → (j : ℕ) → Call → World
 playedOne w j c =
     let s = w .reach in
-    world (next s c) (outputBy s c (w .out)) (noted (w .answers) j (refusalOf s c) (flag (settledBy s c)) (timeBy s c) (placeBy s c))
+    world (next s c) (outputBy s c (w .out)) (noted (w .answers) j (refusalOf s c) (flag (transportedBy s c)) (timeBy s c) (placeBy s c))
 
 -- the calls from call j on
 unfoldable pub playedFrom : World → (j : ℕ) → List Call → World
@@ -110,5 +110,5 @@ pub record Replays (sheet words sheets : List ℕ) (l : Reach) (out answers : Li
 -- the number of the first opening; after a refused one all that was lent stands as it came, and X, ends and ledger are those of its answer
 pub record ReplayCameTo (sheet words sheets : List ℕ) (l : Reach) (out answers : List ℕ) (r : Replayed) (z : List ℤ) (h : List ℕ) (q : List ℤ) (m b : List ℕ) (k : List ℤ) (out' answers' : List ℕ) : Type 0 where
   pub refusal-is : r .refusal ≡ opening sheet l .refusal
-  pub plays : opening sheet l .refusal ≡ 0 → Replays sheet words sheets l out answers (reachOf z h q m b k (r .«cell_length») (r .ends) (r .ledger)) out' answers'
-  pub stays : (opening sheet l .refusal ≡ 0 → ⊥) → world (reachOf z h q m b k (r .«cell_length») (r .ends) (r .ledger)) out' answers' ≡ world l out answers
+  pub plays : opening sheet l .refusal ≡ 0 → Replays sheet words sheets l out answers (reachOf z h q m b k (r .«cell_length») (r .boundaries) (r .ledger)) out' answers'
+  pub stays : (opening sheet l .refusal ≡ 0 → ⊥) → world (reachOf z h q m b k (r .«cell_length») (r .boundaries) (r .ledger)) out' answers' ≡ world l out answers

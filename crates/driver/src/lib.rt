@@ -16,11 +16,11 @@ use sheet::opening::open_sheet;
 // What one call answered, and X, ends and ledger as it left them
 pub struct Played {
     pub refusal: u32,
-    pub settled: bool,
+    pub transported: bool,
     pub time: u64,
     pub place: usize,
     pub cell_length: u64,
-    pub ends: [Boundary; 2],
+    pub boundaries: [Boundary; 2],
     pub ledger: Ledger,
 }
 
@@ -29,7 +29,7 @@ pub struct Played {
 pub struct Replayed {
     pub refusal: u32,
     pub cell_length: u64,
-    pub ends: [Boundary; 2],
+    pub boundaries: [Boundary; 2],
     pub ledger: Ledger,
 }
 
@@ -42,23 +42,23 @@ fn put(answers: &mut [u64], at: usize, v: u64)
     }
 }
 
-fn flag_of(settled: bool) -> u64
-    ensures { λ r. ⌜ r ≡ flag settled ⌝ }
+fn flag_of(transported: bool) -> u64
+    ensures { λ r. ⌜ r ≡ flag transported ⌝ }
 {
-    if settled {
+    if transported {
         return 1;
     }
     0
 }
 
 // Four words an answer
-fn note(answers: &mut [u64], j: usize, refusal: u32, settled: bool, time: u64, place: usize)
+fn note(answers: &mut [u64], j: usize, refusal: u32, transported: bool, time: u64, place: usize)
     requires { ⌜ j ≤ 1_000_000_000_000_000_000 ⌝ }
-    ensures { λ _. ⌜ now (answers .exit) ≡ noted (now (answers .entry)) j refusal (flag settled) time place ⌝ }
+    ensures { λ _. ⌜ now (answers .exit) ≡ noted (now (answers .entry)) j refusal (flag transported) time place ⌝ }
 {
     let at = 4 * j;
     put(answers, at, refusal as u64);
-    put(answers, at + 1, flag_of(settled));
+    put(answers, at + 1, flag_of(transported));
     put(answers, at + 2, time);
     put(answers, at + 3, place as u64);
 }
@@ -67,24 +67,24 @@ fn note(answers: &mut [u64], j: usize, refusal: u32, settled: bool, time: u64, p
 pub fn resume(
     words: &[u64],
     sheets: &[u8],
-    z: &mut [i64],
-    h: &mut [u64],
-    q: &mut [i64],
-    m: &mut [u64],
-    b: &mut [u64],
-    c: &mut [i64],
+    bed: &mut [i64],
+    depth: &mut [u64],
+    discharge: &mut [i64],
+    mass: &mut [u64],
+    base: &mut [u64],
+    carried: &mut [i64],
     x: u64,
-    ends: [Boundary; 2],
+    boundaries: [Boundary; 2],
     ledger: Ledger,
     out: &mut [u8],
     answers: &mut [u64],
 ) -> Replayed
-    ensures { λ r. ⌜ world (reachOf (now (z .exit)) (now (h .exit)) (now (q .exit)) (now (m .exit)) (now (b .exit)) (now (c .exit)) (r .«cell_length») (r .ends) (r .ledger)) (now (out .exit)) (now (answers .exit)) ≡ playedFrom (world (reachOf (now (z .entry)) (now (h .entry)) (now (q .entry)) (now (m .entry)) (now (b .entry)) (now (c .entry)) x ends ledger) (now (out .entry)) (now (answers .entry))) 0 (script (now (words .entry)) (now (sheets .entry)) (length (now (out .entry)))) ⌝ }
+    ensures { λ r. ⌜ world (reachOf (now (bed .exit)) (now (depth .exit)) (now (discharge .exit)) (now (mass .exit)) (now (base .exit)) (now (carried .exit)) (r .«cell_length») (r .boundaries) (r .ledger)) (now (out .exit)) (now (answers .exit)) ≡ playedFrom (world (reachOf (now (bed .entry)) (now (depth .entry)) (now (discharge .entry)) (now (mass .entry)) (now (base .entry)) (now (carried .entry)) x boundaries ledger) (now (out .entry)) (now (answers .entry))) 0 (script (now (words .entry)) (now (sheets .entry)) (length (now (out .entry)))) ⌝ }
     ensures { λ r. ⌜ r .refusal ≡ 0 ⌝ }
 {
     let n = words.len() / 13;
     let mut cell_length = x;
-    let mut pair = ends;
+    let mut pair = boundaries;
     let mut held = ledger;
     let mut j = 0;
     while j < n {
@@ -93,19 +93,19 @@ pub fn resume(
             words,
             13 * j,
             sheets,
-            z,
-            h,
-            q,
-            m,
-            b,
-            c,
+            bed,
+            depth,
+            discharge,
+            mass,
+            base,
+            carried,
             cell_length,
             before,
             held,
             out,
         );
-        note(answers, j, p.refusal, p.settled, p.time, p.place);
-        let after = p.ends;
+        note(answers, j, p.refusal, p.transported, p.time, p.place);
+        let after = p.boundaries;
         cell_length = p.cell_length;
         pair = after;
         held = p.ledger;
@@ -114,7 +114,7 @@ pub fn resume(
     Replayed {
         refusal: 0,
         cell_length,
-        ends: pair,
+        boundaries: pair,
         ledger: held,
     }
 }
@@ -124,39 +124,39 @@ pub fn replay(
     sheet: &[u8],
     words: &[u64],
     sheets: &[u8],
-    z: &mut [i64],
-    h: &mut [u64],
-    q: &mut [i64],
-    m: &mut [u64],
-    b: &mut [u64],
-    c: &mut [i64],
+    bed: &mut [i64],
+    depth: &mut [u64],
+    discharge: &mut [i64],
+    mass: &mut [u64],
+    base: &mut [u64],
+    carried: &mut [i64],
     out: &mut [u8],
     answers: &mut [u64],
 ) -> Replayed
-    ensures { λ r. ⌜ ReplayCameTo (now (sheet .entry)) (now (words .entry)) (now (sheets .entry)) (lent (now (z .entry)) (now (h .entry)) (now (q .entry)) (now (m .entry)) (now (b .entry)) (now (c .entry))) (now (out .entry)) (now (answers .entry)) r (now (z .exit)) (now (h .exit)) (now (q .exit)) (now (m .exit)) (now (b .exit)) (now (c .exit)) (now (out .exit)) (now (answers .exit)) ⌝ }
+    ensures { λ r. ⌜ ReplayCameTo (now (sheet .entry)) (now (words .entry)) (now (sheets .entry)) (lent (now (bed .entry)) (now (depth .entry)) (now (discharge .entry)) (now (mass .entry)) (now (base .entry)) (now (carried .entry))) (now (out .entry)) (now (answers .entry)) r (now (bed .exit)) (now (depth .exit)) (now (discharge .exit)) (now (mass .exit)) (now (base .exit)) (now (carried .exit)) (now (out .exit)) (now (answers .exit)) ⌝ }
 {
-    let o = open_sheet(sheet, z, h, q, m, b, c);
-    let ends = o.ends;
+    let o = open_sheet(sheet, bed, depth, discharge, mass, base, carried);
+    let boundaries = o.boundaries;
     let ledger = o.ledger;
     if o.refusal != 0 {
         return Replayed {
             refusal: o.refusal,
             cell_length: o.cell_length,
-            ends,
+            boundaries,
             ledger,
         };
     }
     resume(
         words,
         sheets,
-        z,
-        h,
-        q,
-        m,
-        b,
-        c,
+        bed,
+        depth,
+        discharge,
+        mass,
+        base,
+        carried,
         o.cell_length,
-        ends,
+        boundaries,
         ledger,
         out,
         answers,

@@ -23,7 +23,7 @@ twoCells = record {
   base = 1_000_000 ∷ 100_000 ∷ [];
   carried = pos 0 ∷ pos 0 ∷ pos 0 ∷ [];
   cellLength = 1_000;
-  ends = noBoundary ∷ noBoundary ∷ [];
+  boundaries = noBoundary ∷ noBoundary ∷ [];
   ledger = record { left = noTotals; right = noTotals };
 }
 
@@ -32,7 +32,7 @@ afterwards = transport (step twoCells 100 .reach)
 
 pub record TwoCellRun : Type 0 where
   pub step-accepted : step twoCells 100 .refusal ≡ 0
-  pub settling-accepted : afterwards .refusal ≡ 0
+  pub transporting-accepted : afterwards .refusal ≡ 0
   pub depths : afterwards .reach .depth ≡ 907_155 ∷ 192_845 ∷ []
   pub discharges : afterwards .reach .discharge ≡ pos 242_672_160 ∷ pos 242_672_160 ∷ []
   pub masses : afterwards .reach .mass ≡ 2_721_465 ∷ 278_535 ∷ []
@@ -48,7 +48,7 @@ oneCell = record {
   base = 1_000_000 ∷ [];
   carried = pos 0 ∷ pos 0 ∷ [];
   cellLength = 1_000;
-  ends = noBoundary ∷ noBoundary ∷ [];
+  boundaries = noBoundary ∷ noBoundary ∷ [];
   ledger = record { left = noTotals; right = noTotals };
 }
 

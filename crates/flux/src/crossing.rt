@@ -48,24 +48,24 @@ fn momentum_of(t: u64, x: u64, h: u64, k: u64) -> u64
 }
 
 // W and Q of one side
-pub struct Crossing {
+pub struct Fluxes {
     pub water: u64,
     pub momentum: u64,
 }
 
 // W(h,u) and Q(h,u) of a depth h, its wave speed a and the velocity u = right − left
-pub fn crossing_of(t: u64, x: u64, h: u64, a: u64, right: u64, left: u64) -> Crossing
+pub fn fluxes_of(t: u64, x: u64, h: u64, a: u64, right: u64, left: u64) -> Fluxes
     requires { ⌜ Mesh t x × Flow h a right left ⌝ }
     ensures { λ r. ⌜ (r .water ≡ waterFlux t x h (subℕ right left)) × (r .momentum ≡ momentumFlux t x h (subℕ right left)) ⌝ }
 {
     if h == 0 {
-        return Crossing {
+        return Fluxes {
             water: 0,
             momentum: 0,
         };
     }
     let s = rightgoing_of(a, right, left);
-    Crossing {
+    Fluxes {
         water: water_of(t, x, h, a, s.upper, s.lower),
         momentum: momentum_of(t, x, h, second_moment(a, s.upper, s.lower)),
     }

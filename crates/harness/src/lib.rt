@@ -15,7 +15,7 @@ ghost use Rattle.text.specs.Text.{Put};
 ghost use Rattle.program.specs.Program.{programText};
 use driver::Replayed;
 use driver::replay;
-use flux::crossing::crossing_of;
+use flux::crossing::fluxes_of;
 use flux::crossing::still_thrust;
 use flux::interface::reduced_depth;
 use flux::velocity::velocity_parts;
@@ -47,7 +47,7 @@ pub extern "C" fn harness_side(t: u64, x: u64, h: u64, u: i64) -> Side
     ensures { λ r. ⌜ (r .water ≡ waterFlux t x h u) × ((r .momentum ≡ momentumFlux t x h u) × (r .still ≡ stillThrust t x h)) ⌝ }
 {
     let a = wave_speed(h);
-    let c = crossing_of(t, x, h, a, right_part(u), left_part(u));
+    let c = fluxes_of(t, x, h, a, right_part(u), left_part(u));
     Side {
         water: c.water,
         momentum: c.momentum,
@@ -77,18 +77,30 @@ pub extern "C" fn harness_replay(
     sheet: &[u8],
     words: &[u64],
     sheets: &[u8],
-    z: &mut [i64],
-    h: &mut [u64],
-    q: &mut [i64],
-    m: &mut [u64],
-    b: &mut [u64],
-    c: &mut [i64],
+    bed: &mut [i64],
+    depth: &mut [u64],
+    discharge: &mut [i64],
+    mass: &mut [u64],
+    base: &mut [u64],
+    carried: &mut [i64],
     out: &mut [u8],
     answers: &mut [u64],
 ) -> Replayed
-    ensures { λ r. ⌜ ReplayCameTo (now (sheet .entry)) (now (words .entry)) (now (sheets .entry)) (lent (now (z .entry)) (now (h .entry)) (now (q .entry)) (now (m .entry)) (now (b .entry)) (now (c .entry))) (now (out .entry)) (now (answers .entry)) r (now (z .exit)) (now (h .exit)) (now (q .exit)) (now (m .exit)) (now (b .exit)) (now (c .exit)) (now (out .exit)) (now (answers .exit)) ⌝ }
+    ensures { λ r. ⌜ ReplayCameTo (now (sheet .entry)) (now (words .entry)) (now (sheets .entry)) (lent (now (bed .entry)) (now (depth .entry)) (now (discharge .entry)) (now (mass .entry)) (now (base .entry)) (now (carried .entry))) (now (out .entry)) (now (answers .entry)) r (now (bed .exit)) (now (depth .exit)) (now (discharge .exit)) (now (mass .exit)) (now (base .exit)) (now (carried .exit)) (now (out .exit)) (now (answers .exit)) ⌝ }
 {
-    replay(sheet, words, sheets, z, h, q, m, b, c, out, answers)
+    replay(
+        sheet,
+        words,
+        sheets,
+        bed,
+        depth,
+        discharge,
+        mass,
+        base,
+        carried,
+        out,
+        answers,
+    )
 }
 
 // The program's text at the start of `out`, and its length

@@ -8,125 +8,178 @@ ghost use Rattle.sheet.specs.Opening.{lent, opening, OpenCameTo};
 ghost use Rattle.writing.specs.Writing.{WriteCameTo};
 use reach::boundary::Boundary;
 use reach::ledger::Ledger;
-use sheet::opening::Opened;
+use sheet::opening::OpenAnswer;
 use sheet::opening::open_sheet;
-use stepping::Greatest;
-use stepping::step::Stepped;
-use transport::Answer;
-use writing::write::Written;
+use stepping::GreatestAnswer;
+use stepping::step::StepAnswer;
+use transport::TransportAnswer;
+use writing::write::WriteAnswer;
 use writing::write::write_sheet;
 
 // Both boundaries, left and right, as C passes them
 #[repr(C)]
-pub struct Ends {
-    pub ends: [Boundary; 2],
+pub struct Boundaries {
+    pub boundaries: [Boundary; 2],
 }
 
 #[no_mangle]
 pub extern "C" fn jemmyfern_open(
     s: &[u8],
-    z: &mut [i64],
-    h: &mut [u64],
-    q: &mut [i64],
-    m: &mut [u64],
-    b: &mut [u64],
-    c: &mut [i64],
-) -> Opened
-    ensures { λ r. ⌜ OpenCameTo (opening (now (s .entry)) (lent (now (z .entry)) (now (h .entry)) (now (q .entry)) (now (m .entry)) (now (b .entry)) (now (c .entry)))) r (now (z .exit)) (now (h .exit)) (now (q .exit)) (now (m .exit)) (now (b .exit)) (now (c .exit)) ⌝ }
+    bed: &mut [i64],
+    depth: &mut [u64],
+    discharge: &mut [i64],
+    mass: &mut [u64],
+    base: &mut [u64],
+    carried: &mut [i64],
+) -> OpenAnswer
+    ensures { λ r. ⌜ OpenCameTo (opening (now (s .entry)) (lent (now (bed .entry)) (now (depth .entry)) (now (discharge .entry)) (now (mass .entry)) (now (base .entry)) (now (carried .entry)))) r (now (bed .exit)) (now (depth .exit)) (now (discharge .exit)) (now (mass .exit)) (now (base .exit)) (now (carried .exit)) ⌝ }
 {
-    open_sheet(s, z, h, q, m, b, c)
+    open_sheet(s, bed, depth, discharge, mass, base, carried)
 }
 
 #[no_mangle]
 pub extern "C" fn jemmyfern_step(
-    z: &[i64],
-    h: &mut [u64],
-    q: &mut [i64],
-    m: &mut [u64],
-    b: &mut [u64],
-    c: &mut [i64],
+    bed: &[i64],
+    depth: &mut [u64],
+    discharge: &mut [i64],
+    mass: &mut [u64],
+    base: &mut [u64],
+    carried: &mut [i64],
     x: u64,
-    held: Ends,
+    held: Boundaries,
     ledger: Ledger,
     t: u64,
-) -> Stepped
-    ensures { λ r. ⌜ StepCameTo (reachOf (now (z .entry)) (now (h .entry)) (now (q .entry)) (now (m .entry)) (now (b .entry)) (now (c .entry)) x (held .ends) ledger) t r (now (h .exit)) (now (q .exit)) (now (m .exit)) (now (b .exit)) (now (c .exit)) ⌝ }
+) -> StepAnswer
+    ensures { λ r. ⌜ StepCameTo (reachOf (now (bed .entry)) (now (depth .entry)) (now (discharge .entry)) (now (mass .entry)) (now (base .entry)) (now (carried .entry)) x (held .boundaries) ledger) t r (now (depth .exit)) (now (discharge .exit)) (now (mass .exit)) (now (base .exit)) (now (carried .exit)) ⌝ }
 {
-    let ends = held.ends;
-    stepping::step::step(z, h, q, m, b, c, x, ends, ledger, t)
+    let boundaries = held.boundaries;
+    stepping::step::step(
+        bed,
+        depth,
+        discharge,
+        mass,
+        base,
+        carried,
+        x,
+        boundaries,
+        ledger,
+        t,
+    )
 }
 
 #[no_mangle]
-pub extern "C" fn jemmyfern_settle(
-    z: &[i64],
-    h: &[u64],
-    q: &[i64],
-    m: &mut [u64],
-    b: &mut [u64],
-    c: &mut [i64],
+pub extern "C" fn jemmyfern_transport(
+    bed: &[i64],
+    depth: &[u64],
+    discharge: &[i64],
+    mass: &mut [u64],
+    base: &mut [u64],
+    carried: &mut [i64],
     x: u64,
-    held: Ends,
+    held: Boundaries,
     ledger: Ledger,
-) -> Answer
-    ensures { λ r. ⌜ CameTo (transportOf (reachOf (now (z .entry)) (now (h .entry)) (now (q .entry)) (now (m .entry)) (now (b .entry)) (now (c .entry)) x (held .ends) ledger)) r (now (m .exit)) (now (b .exit)) (now (c .exit)) ⌝ }
+) -> TransportAnswer
+    ensures { λ r. ⌜ CameTo (transportOf (reachOf (now (bed .entry)) (now (depth .entry)) (now (discharge .entry)) (now (mass .entry)) (now (base .entry)) (now (carried .entry)) x (held .boundaries) ledger)) r (now (mass .exit)) (now (base .exit)) (now (carried .exit)) ⌝ }
 {
-    let ends = held.ends;
-    transport::transport(z, h, q, m, b, c, x, ends, ledger)
+    let boundaries = held.boundaries;
+    transport::transport(
+        bed,
+        depth,
+        discharge,
+        mass,
+        base,
+        carried,
+        x,
+        boundaries,
+        ledger,
+    )
 }
 
 #[no_mangle]
-pub extern "C" fn jemmyfern_set_ends(
-    z: &[i64],
-    h: &[u64],
-    q: &[i64],
-    m: &mut [u64],
-    b: &mut [u64],
-    c: &mut [i64],
+pub extern "C" fn jemmyfern_set_boundaries(
+    bed: &[i64],
+    depth: &[u64],
+    discharge: &[i64],
+    mass: &mut [u64],
+    base: &mut [u64],
+    carried: &mut [i64],
     x: u64,
-    held: Ends,
+    held: Boundaries,
     ledger: Ledger,
-    new: Ends,
-) -> Answer
-    ensures { λ r. ⌜ CameTo (setBoundaries (reachOf (now (z .entry)) (now (h .entry)) (now (q .entry)) (now (m .entry)) (now (b .entry)) (now (c .entry)) x (held .ends) ledger) (new .ends)) r (now (m .exit)) (now (b .exit)) (now (c .exit)) ⌝ }
+    new: Boundaries,
+) -> TransportAnswer
+    ensures { λ r. ⌜ CameTo (setBoundaries (reachOf (now (bed .entry)) (now (depth .entry)) (now (discharge .entry)) (now (mass .entry)) (now (base .entry)) (now (carried .entry)) x (held .boundaries) ledger) (new .boundaries)) r (now (mass .exit)) (now (base .exit)) (now (carried .exit)) ⌝ }
 {
-    let ends = held.ends;
-    let given = new.ends;
-    transport::set_boundaries(z, h, q, m, b, c, x, ends, ledger, given)
+    let boundaries = held.boundaries;
+    let given = new.boundaries;
+    transport::set_boundaries(
+        bed,
+        depth,
+        discharge,
+        mass,
+        base,
+        carried,
+        x,
+        boundaries,
+        ledger,
+        given,
+    )
 }
 
 #[no_mangle]
 pub extern "C" fn jemmyfern_greatest_step(
-    z: &[i64],
-    h: &[u64],
-    q: &[i64],
-    m: &[u64],
-    b: &[u64],
-    c: &[i64],
+    bed: &[i64],
+    depth: &[u64],
+    discharge: &[i64],
+    mass: &[u64],
+    base: &[u64],
+    carried: &[i64],
     x: u64,
-    held: Ends,
+    held: Boundaries,
     ledger: Ledger,
-) -> Greatest
-    ensures { λ r. ⌜ r ≡ greatest (reachOf (now (z .entry)) (now (h .entry)) (now (q .entry)) (now (m .entry)) (now (b .entry)) (now (c .entry)) x (held .ends) ledger) ⌝ }
+) -> GreatestAnswer
+    ensures { λ r. ⌜ r ≡ greatest (reachOf (now (bed .entry)) (now (depth .entry)) (now (discharge .entry)) (now (mass .entry)) (now (base .entry)) (now (carried .entry)) x (held .boundaries) ledger) ⌝ }
 {
-    let ends = held.ends;
-    stepping::greatest_step(z, h, q, m, b, c, x, ends, ledger)
+    let boundaries = held.boundaries;
+    stepping::greatest_step(
+        bed,
+        depth,
+        discharge,
+        mass,
+        base,
+        carried,
+        x,
+        boundaries,
+        ledger,
+    )
 }
 
 #[no_mangle]
 pub extern "C" fn jemmyfern_write(
-    z: &[i64],
-    h: &[u64],
-    q: &[i64],
-    m: &[u64],
-    b: &[u64],
-    c: &[i64],
+    bed: &[i64],
+    depth: &[u64],
+    discharge: &[i64],
+    mass: &[u64],
+    base: &[u64],
+    carried: &[i64],
     x: u64,
-    held: Ends,
+    held: Boundaries,
     ledger: Ledger,
     out: &mut [u8],
-) -> Written
-    ensures { λ r. ⌜ WriteCameTo (reachOf (now (z .entry)) (now (h .entry)) (now (q .entry)) (now (m .entry)) (now (b .entry)) (now (c .entry)) x (held .ends) ledger) (now (out .entry)) r (now (out .exit)) ⌝ }
+) -> WriteAnswer
+    ensures { λ r. ⌜ WriteCameTo (reachOf (now (bed .entry)) (now (depth .entry)) (now (discharge .entry)) (now (mass .entry)) (now (base .entry)) (now (carried .entry)) x (held .boundaries) ledger) (now (out .entry)) r (now (out .exit)) ⌝ }
 {
-    let ends = held.ends;
-    write_sheet(z, h, q, m, b, c, x, ends, ledger, out)
+    let boundaries = held.boundaries;
+    write_sheet(
+        bed,
+        depth,
+        discharge,
+        mass,
+        base,
+        carried,
+        x,
+        boundaries,
+        ledger,
+        out,
+    )
 }

@@ -14,7 +14,7 @@ use Rattle.numbers.specs.Shares.{share, shares, rest}
 use Rattle.numbers.specs.Signed.{positive}
 use Rattle.numbers.proofs.IndexLaws.{telescope, sum-tabulate, sum-by-index}
 use Rattle.numbers.proofs.SharesLaws.{floor-mono, floor-all, share-lo, share-hi, rest-lo, rest-hi}
-use Rattle.mass.specs.Transport.{Columns, columns, outRight, outLeft, cellShares, rightShare, leftShare, rightwards, leftwards, movedCell, movedMass}
+use Rattle.mass.specs.Transport.{MassColumns, massColumns, outRight, outLeft, cellShares, rightShare, leftShare, rightwards, leftwards, movedCell, movedMass}
 use Rattle.mass.specs.Ranges.{Giving, ReadyAt, Ready, massMost}
 
 -- ---- two parts: the first share is a floor, and both together are one
@@ -34,7 +34,7 @@ pub no-share : (m b P : ℕ) → share m b P 0 ≡ 0
 unfolding share
 no-share m b P = let e : P + 0 ≡ P = omega arith in rw e (omega arith)
 
-module _ (s : Columns) where
+module _ (s : MassColumns) where
   abbrev M : ℕ → ℕ
   M i = getD (s .mass) i 0
 
@@ -110,13 +110,13 @@ sum-hi : (hi h b P k p q r x y : ℕ) → P + k ≡ b → h + P ≡ b + p + q �
 sum-hi hi h b P k p q r x y e f α β γ = let g : h ≡ k + p + q = omega arith in rw g (omega arith)
 
 -- the water that came into cell i over its left and over its right
-abbrev pub inLeft : Columns → ℕ → ℕ
+abbrev pub inLeft : MassColumns → ℕ → ℕ
 inLeft s i = positive (getD (s .carried) i (pos 0))
 
-abbrev pub inRight : Columns → ℕ → ℕ
+abbrev pub inRight : MassColumns → ℕ → ℕ
 inRight s i = positive (negℤ (getD (s .carried) (i + 1) (pos 0)))
 
-module _ (s : Columns) (covered : (i : ℕ) → i < length (s .mass) → outRight s i + outLeft s i ≤ getD (s .base) i 0) where
+module _ (s : MassColumns) (covered : (i : ℕ) → i < length (s .mass) → outRight s i + outLeft s i ≤ getD (s .base) i 0) where
   module _
       (lo : ℕ)
       (held : (i : ℕ) → i < length (s .mass) → lo * getD (s .base) i 0 ≤ getD (s .mass) i 0)
@@ -179,7 +179,7 @@ module _ (s : Columns) (covered : (i : ℕ) → i < length (s .mass) → outRigh
 
 -- ---- sizes
 
-module _ (s : Columns) (i : ℕ) (r : ReadyAt s i) where
+module _ (s : MassColumns) (i : ℕ) (r : ReadyAt s i) where
   pub mass-small : i < length (s .mass) → getD (s .mass) i 0 ≤ massMost
   mass-small l = let g = r .giving l in omega (arith, g .deep, g .rich)
 
@@ -194,7 +194,7 @@ module _ (s : Columns) (i : ℕ) (r : ReadyAt s i) where
       (λ k. rw (leftwards-cell s i k) (omega (arith, shares-fit k, mass-small k)))
       (eq-or-lt-of-le h)
 
-pub rightwards-small : (s : Columns) → Ready s → (i : ℕ) → i ≤ length (s .mass) → rightwards s i ≤ massMost
+pub rightwards-small : (s : MassColumns) → Ready s → (i : ℕ) → i ≤ length (s .mass) → rightwards s i ≤ massMost
 unfolding rightwards
 rightwards-small s r zero l = r .entering
 rightwards-small s r (suc i) l = omega (arith, shares-fit s i (r .each i) l, mass-small s i (r .each i) l)
@@ -202,7 +202,7 @@ rightwards-small s r (suc i) l = omega (arith, shares-fit s i (r .each i) l, mas
 -- ---- What is read of a cell depends on the mass there alone, so a column that is written in place up to i serves at i and above;
 -- and nothing of it depends on what enters over the left boundary.
 module _ (m m₀ b : List ℕ) (c : List ℤ) (x x₀ y : ℕ) (long : length m ≡ length m₀) where
-  pub ready-same : (j : ℕ) → getD m j 0 ≡ getD m₀ j 0 → ReadyAt (columns m₀ b c x₀ y) j → ReadyAt (columns m b c x y) j
+  pub ready-same : (j : ℕ) → getD m j 0 ≡ getD m₀ j 0 → ReadyAt (massColumns m₀ b c x₀ y) j → ReadyAt (massColumns m b c x y) j
   ready-same j e r = record {
     bases = r .bases ∙ sym long;
     interfaces = r .interfaces ∙ ap (λ (k : ℕ). k + 1) (sym long);
@@ -210,10 +210,10 @@ module _ (m m₀ b : List ℕ) (c : List ℤ) (x x₀ y : ℕ) (long : length m 
     entering = r .entering;
   }
 
-  pub right-share-same : (j : ℕ) → getD m j 0 ≡ getD m₀ j 0 → rightShare (columns m b c x y) j ≡ rightShare (columns m₀ b c x₀ y) j
+  pub right-share-same : (j : ℕ) → getD m j 0 ≡ getD m₀ j 0 → rightShare (massColumns m b c x y) j ≡ rightShare (massColumns m₀ b c x₀ y) j
   unfolding rightShare cellShares
   right-share-same j e = rw e refl
 
-  pub leftwards-same : (j : ℕ) → getD m j 0 ≡ getD m₀ j 0 → leftwards (columns m b c x y) j ≡ leftwards (columns m₀ b c x₀ y) j
+  pub leftwards-same : (j : ℕ) → getD m j 0 ≡ getD m₀ j 0 → leftwards (massColumns m b c x y) j ≡ leftwards (massColumns m₀ b c x₀ y) j
   unfolding leftwards leftShare cellShares
   leftwards-same j e = rw (e, long) refl

@@ -3,7 +3,7 @@ ghost use mathlib.Core.Path.{_≡_};
 ghost use Prim.Native.Nat.{ℕ, _+_, _-_, _*_, _/_, _≤_, _<_};
 ghost use lib.ListN.{length};
 ghost use Rattle.numbers.specs.Shares.{share};
-ghost use Rattle.mass.specs.Transport.{columns, rightShare, leftwards, movedMass};
+ghost use Rattle.mass.specs.Transport.{massColumns, rightShare, leftwards, movedMass};
 ghost use Rattle.mass.specs.Ranges.{Giving, ReadyAt, Ready, massMost};
 use numbers::signed::left_part;
 use numbers::signed::right_part;
@@ -45,14 +45,19 @@ fn shares_of(m: u64, b: u64, right: u64, left: u64) -> Shares
 }
 
 // The two shares of cell i; past the last cell, what enters over the right boundary goes left
-pub fn leaving(m: &[u64], b: &[u64], c: &[i64], right_in: u64, i: usize) -> Shares
-    requires { ⌜ ReadyAt (columns (now m) (now b) (now c) 0 «right_in») i ⌝ }
-    requires { ⌜ i ≤ length (now m) ⌝ }
-    ensures { λ r. ⌜ r .left ≡ leftwards (columns (now (m .entry)) (now (b .entry)) (now (c .entry)) 0 «right_in») i ⌝ }
-    ensures { λ r. ⌜ (i < length (now (m .entry)) → r .right ≡ rightShare (columns (now (m .entry)) (now (b .entry)) (now (c .entry)) 0 «right_in») i) ⌝ }
+pub fn leaving(mass: &[u64], base: &[u64], carried: &[i64], right_in: u64, i: usize) -> Shares
+    requires { ⌜ ReadyAt (massColumns (now mass) (now base) (now carried) 0 «right_in») i ⌝ }
+    requires { ⌜ i ≤ length (now mass) ⌝ }
+    ensures { λ r. ⌜ r .left ≡ leftwards (massColumns (now (mass .entry)) (now (base .entry)) (now (carried .entry)) 0 «right_in») i ⌝ }
+    ensures { λ r. ⌜ (i < length (now (mass .entry)) → r .right ≡ rightShare (massColumns (now (mass .entry)) (now (base .entry)) (now (carried .entry)) 0 «right_in») i) ⌝ }
 {
-    if i < m.len() {
-        return shares_of(m[i], b[i], right_part(c[i + 1]), left_part(c[i]));
+    if i < mass.len() {
+        return shares_of(
+            mass[i],
+            base[i],
+            right_part(carried[i + 1]),
+            left_part(carried[i]),
+        );
     }
     Shares {
         right: 0,
@@ -69,17 +74,17 @@ fn moved(held: u64, right: u64, left: u64, from_left: u64, from_right: u64) -> u
 }
 
 // Every cell from the left: its own shares and those of the next cell are found before it is written, each once.
-pub fn move_mass(m: &mut [u64], b: &[u64], c: &[i64], left_in: u64, right_in: u64)
-    requires { ⌜ Ready (columns (now m) (now b) (now c) «left_in» «right_in») ⌝ }
-    ensures { λ _. ⌜ now (m .exit) ≡ movedMass (columns (now (m .entry)) (now (b .entry)) (now (c .entry)) «left_in» «right_in») ⌝ }
+pub fn move_mass(mass: &mut [u64], base: &[u64], carried: &[i64], left_in: u64, right_in: u64)
+    requires { ⌜ Ready (massColumns (now mass) (now base) (now carried) «left_in» «right_in») ⌝ }
+    ensures { λ _. ⌜ now (mass .exit) ≡ movedMass (massColumns (now (mass .entry)) (now (base .entry)) (now (carried .entry)) «left_in» «right_in») ⌝ }
 {
-    let n = m.len();
+    let n = mass.len();
     let mut from_left = left_in;
-    let mut out = leaving(m, b, c, right_in, 0);
+    let mut out = leaving(mass, base, carried, right_in, 0);
     let mut i = 0;
     while i < n {
-        let next = leaving(m, b, c, right_in, i + 1);
-        m[i] = moved(m[i], out.right, out.left, from_left, next.left);
+        let next = leaving(mass, base, carried, right_in, i + 1);
+        mass[i] = moved(mass[i], out.right, out.left, from_left, next.left);
         from_left = out.right;
         out = next;
         i += 1;

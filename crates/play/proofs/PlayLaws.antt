@@ -10,33 +10,33 @@ use Rattle.reach.specs.Reach.{Reach, reachOf}
 use Rattle.reach.specs.Outcome.{Outcome}
 use Rattle.reach.specs.declared.boundary.Boundary.{Boundary}
 use Rattle.reach.specs.declared.ledger.Ledger.{Ledger}
-use Rattle.stepping.specs.Step.{stepped, step, StepCameTo}
-use Rattle.stepping.specs.declared.step.Stepped.{Stepped}
+use Rattle.stepping.specs.Step.{afterStep, step, StepCameTo}
+use Rattle.stepping.specs.declared.step.StepAnswer.{StepAnswer}
 use Rattle.stepping.proofs.StepLaws.{by-step}
-use Rattle.transport.specs.Calls.{transported, transport, CameTo}
-use Rattle.transport.specs.declared.Answer.{Answer}
+use Rattle.transport.specs.Calls.{afterTransport, transport, CameTo}
+use Rattle.transport.specs.declared.TransportAnswer.{TransportAnswer}
 use Rattle.transport.proofs.CallsLaws.{by-outcome}
 use Rattle.sheet.specs.Opening.{opening, OpenCameTo}
-use Rattle.sheet.specs.declared.opening.Opened.{Opened}
-use Rattle.play.specs.Play.{steps, countMost, stepsThenSettles, played}
+use Rattle.sheet.specs.declared.opening.OpenAnswer.{OpenAnswer}
+use Rattle.play.specs.Play.{steps, countMost, stepsThenTransports, played}
 use Rattle.play.specs.Ranges.{PlayedTo}
 use Rattle.play.specs.declared.Ran.{Ran}
 
 -- a step changes neither the bed, the cell length nor the boundaries
 kept : (s : Reach) (t : ℕ) →
     let r = step s t .reach in
-    reachOf (s .bed) (r .depth) (r .discharge) (r .mass) (r .base) (r .carried) (s .cellLength) (s .ends) (r .ledger) ≡ r
-unfolding stepped
+    reachOf (s .bed) (r .depth) (r .discharge) (r .mass) (r .base) (r .carried) (s .cellLength) (s .boundaries) (r .ledger) ≡ r
+unfolding afterStep
 kept s t =
     by-step s t
     (λ o. let r = o .reach in
-    reachOf (s .bed) (r .depth) (r .discharge) (r .mass) (r .base) (r .carried) (s .cellLength) (s .ends) (r .ledger) ≡ r)
+    reachOf (s .bed) (r .depth) (r .discharge) (r .mass) (r .base) (r .carried) (s .cellLength) (s .boundaries) (r .ledger) ≡ r)
     (λ n p. refl)
     (λ k c d l. refl)
 
 -- the record that a step left in the columns
-pub left-by-step : (s : Reach) (t : ℕ) {r : Stepped} {h : List ℕ} {q : List ℤ} {m b : List ℕ} {c : List ℤ} → StepCameTo s t r h q m b c
-    → reachOf (s .bed) h q m b c (s .cellLength) (s .ends) (r .ledger) ≡ step s t .reach
+pub left-by-step : (s : Reach) (t : ℕ) {r : StepAnswer} {h : List ℕ} {q : List ℤ} {m b : List ℕ} {c : List ℤ} → StepCameTo s t r h q m b c
+    → reachOf (s .bed) h q m b c (s .cellLength) (s .boundaries) (r .ledger) ≡ step s t .reach
 left-by-step s t k = rw (k .depth-is, k .discharge-is, k .mass-is, k .base-is, k .carried-is, k .ledger-is) (kept s t)
 
 -- one step of those that are left
@@ -77,31 +77,31 @@ module _ (s : List ℕ) (l : Reach) (count t : ℕ) where
 
   module _ (e : opening s l .refusal ≡ 0) where
     pub too-many : countMost < count → played s l count t ≡ record { refusal = 10; reach = opening s l .reach }
-    unfolding played stepsThenSettles
+    unfolding played stepsThenTransports
     too-many m = rw (eq-eqb _ _ e, lt-leb _ _ m) refl
 
     module _ (f : count ≤ countMost) where
       pub not-stepped : (steps count t (opening s l .reach) .refusal ≡ 0 → ⊥) → played s l count t ≡ steps count t (opening s l .reach)
-      unfolding played stepsThenSettles
+      unfolding played stepsThenTransports
       not-stepped n = rw (eq-eqb _ _ e, le-leb _ _ f, ne-eqb _ _ n) refl
 
-      pub settled : steps count t (opening s l .reach) .refusal ≡ 0 → played s l count t ≡ transport (steps count t (opening s l .reach) .reach)
-      unfolding played stepsThenSettles
-      settled g = rw (eq-eqb _ _ e, le-leb _ _ f, eq-eqb _ _ g) refl
+      pub transported : steps count t (opening s l .reach) .refusal ≡ 0 → played s l count t ≡ transport (steps count t (opening s l .reach) .reach)
+      unfolding played stepsThenTransports
+      transported g = rw (eq-eqb _ _ e, le-leb _ _ f, eq-eqb _ _ g) refl
 
 -- a settling changes neither the bed, the depth, the discharge, the cell length nor the boundaries
 moved : (s : Reach) →
     let r = transport s .reach in
-    reachOf (s .bed) (s .depth) (s .discharge) (r .mass) (r .base) (r .carried) (s .cellLength) (s .ends) (r .ledger) ≡ r
-unfolding transport transported
+    reachOf (s .bed) (s .depth) (s .discharge) (r .mass) (r .base) (r .carried) (s .cellLength) (s .boundaries) (r .ledger) ≡ r
+unfolding transport afterTransport
 moved s =
-    by-outcome s (s .ends)
+    by-outcome s (s .boundaries)
     (λ o. let r = o .reach in
-    reachOf (s .bed) (s .depth) (s .discharge) (r .mass) (r .base) (r .carried) (s .cellLength) (s .ends) (r .ledger) ≡ r)
+    reachOf (s .bed) (s .depth) (s .discharge) (r .mass) (r .base) (r .carried) (s .cellLength) (s .boundaries) (r .ledger) ≡ r)
     (λ n p. refl)
     (λ k g f. refl)
 
 -- the record that a settling left in the columns
-pub left-by-transport : (s : Reach) {r : Answer} {m b : List ℕ} {c : List ℤ} → CameTo (transport s) r m b c
-    → reachOf (s .bed) (s .depth) (s .discharge) m b c (s .cellLength) (s .ends) (r .ledger) ≡ transport s .reach
+pub left-by-transport : (s : Reach) {r : TransportAnswer} {m b : List ℕ} {c : List ℤ} → CameTo (transport s) r m b c
+    → reachOf (s .bed) (s .depth) (s .discharge) m b c (s .cellLength) (s .boundaries) (r .ledger) ≡ transport s .reach
 left-by-transport s k = rw (k .mass-is, k .base-is, k .carried-is, k .ledger-is) (moved s)

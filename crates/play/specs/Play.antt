@@ -23,9 +23,9 @@ steps (suc k) t s = andThen (step s t) (λ r. steps k t r)
 abbrev pub countMost : ℕ
 countMost = 1_000
 
-unfoldable pub stepsThenSettles : (count t : ℕ) → Reach → Outcome
-stepsThenSettles count t s = andThen (outcome (passOr 10 (leb count countMost)) s s) (λ r. andThen (steps count t r) transport)
+unfoldable pub stepsThenTransports : (count t : ℕ) → Reach → Outcome
+stepsThenTransports count t s = andThen (outcome (passOr 10 (leb count countMost)) s s) (λ r. andThen (steps count t r) transport)
 
 -- opens into the lent columns l, steps, settles
 unfoldable pub played : (s : List ℕ) → Reach → (count t : ℕ) → Outcome
-played s l count t = andThen (opening s l) (stepsThenSettles count t)
+played s l count t = andThen (opening s l) (stepsThenTransports count t)

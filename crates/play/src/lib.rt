@@ -16,24 +16,35 @@ pub struct Ran {
 }
 
 fn run_steps(
-    z: &[i64],
-    h: &mut [u64],
-    q: &mut [i64],
-    m: &mut [u64],
-    b: &mut [u64],
-    c: &mut [i64],
+    bed: &[i64],
+    depth: &mut [u64],
+    discharge: &mut [i64],
+    mass: &mut [u64],
+    base: &mut [u64],
+    carried: &mut [i64],
     x: u64,
-    ends: [Boundary; 2],
+    boundaries: [Boundary; 2],
     ledger: Ledger,
     count: u64,
     t: u64,
 ) -> Ran
-    ensures { λ r. ⌜ RanTo (steps count t (reachOf (now (z .entry)) (now (h .entry)) (now (q .entry)) (now (m .entry)) (now (b .entry)) (now (c .entry)) x ends ledger)) r (now (z .entry)) (now (h .exit)) (now (q .exit)) (now (m .exit)) (now (b .exit)) (now (c .exit)) x ends ⌝ }
+    ensures { λ r. ⌜ RanTo (steps count t (reachOf (now (bed .entry)) (now (depth .entry)) (now (discharge .entry)) (now (mass .entry)) (now (base .entry)) (now (carried .entry)) x boundaries ledger)) r (now (bed .entry)) (now (depth .exit)) (now (discharge .exit)) (now (mass .exit)) (now (base .exit)) (now (carried .exit)) x boundaries ⌝ }
 {
     let mut held = ledger;
     let mut i = 0;
     while i < count {
-        let r = step(z, h, q, m, b, c, x, ends, held, t);
+        let r = step(
+            bed,
+            depth,
+            discharge,
+            mass,
+            base,
+            carried,
+            x,
+            boundaries,
+            held,
+            t,
+        );
         let next = r.ledger;
         if r.refusal != 0 {
             return Ran {
@@ -59,20 +70,20 @@ fn came_to(refusal: u32, ledger: Ledger) -> Ran
 // Opens the sheet into the lent columns, steps count times, and settles.
 pub fn play(
     s: &[u8],
-    z: &mut [i64],
-    h: &mut [u64],
-    q: &mut [i64],
-    m: &mut [u64],
-    b: &mut [u64],
-    c: &mut [i64],
+    bed: &mut [i64],
+    depth: &mut [u64],
+    discharge: &mut [i64],
+    mass: &mut [u64],
+    base: &mut [u64],
+    carried: &mut [i64],
     count: u64,
     t: u64,
 ) -> Ran
-    ensures { λ r. ⌜ PlayedTo (played (now (s .entry)) (lent (now (z .entry)) (now (h .entry)) (now (q .entry)) (now (m .entry)) (now (b .entry)) (now (c .entry))) count t) r (now (z .exit)) (now (h .exit)) (now (q .exit)) (now (m .exit)) (now (b .exit)) (now (c .exit)) ⌝ }
+    ensures { λ r. ⌜ PlayedTo (played (now (s .entry)) (lent (now (bed .entry)) (now (depth .entry)) (now (discharge .entry)) (now (mass .entry)) (now (base .entry)) (now (carried .entry))) count t) r (now (bed .exit)) (now (depth .exit)) (now (discharge .exit)) (now (mass .exit)) (now (base .exit)) (now (carried .exit)) ⌝ }
 {
-    let o = open_sheet(s, z, h, q, m, b, c);
+    let o = open_sheet(s, bed, depth, discharge, mass, base, carried);
     let opened = o.ledger;
-    let ends = o.ends;
+    let boundaries = o.boundaries;
     if o.refusal != 0 {
         return came_to(o.refusal, opened);
     }
@@ -80,11 +91,33 @@ pub fn play(
         return came_to(10, opened);
     }
     let x = o.cell_length;
-    let r = run_steps(z, h, q, m, b, c, x, ends, opened, count, t);
+    let r = run_steps(
+        bed,
+        depth,
+        discharge,
+        mass,
+        base,
+        carried,
+        x,
+        boundaries,
+        opened,
+        count,
+        t,
+    );
     let stepped = r.ledger;
     if r.refusal != 0 {
         return came_to(r.refusal, stepped);
     }
-    let a = transport::transport(z, h, q, m, b, c, x, ends, stepped);
+    let a = transport::transport(
+        bed,
+        depth,
+        discharge,
+        mass,
+        base,
+        carried,
+        x,
+        boundaries,
+        stepped,
+    );
     came_to(a.refusal, a.ledger)
 }

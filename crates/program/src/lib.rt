@@ -28,24 +28,24 @@ fn answer(
     s: &[u8],
     count: u64,
     t: u64,
-    z: &mut [i64],
-    h: &mut [u64],
-    q: &mut [i64],
-    m: &mut [u64],
-    b: &mut [u64],
-    c: &mut [i64],
+    bed: &mut [i64],
+    depth: &mut [u64],
+    discharge: &mut [i64],
+    mass: &mut [u64],
+    base: &mut [u64],
+    carried: &mut [i64],
     out: &mut [u8],
 ) -> usize
-    requires { ⌜ (length (now h) ≤ 512) × ((length (now q) ≡ length (now h)) × ((length (now m) ≡ length (now h)) × (65_536 ≤ length (now out)))) ⌝ }
-    ensures { λ r. ⌜ (r ≡ length (outcomeText (played (now (s .entry)) (lent (now (z .entry)) (now (h .entry)) (now (q .entry)) (now (m .entry)) (now (b .entry)) (now (c .entry))) count t))) × (r ≤ 65_536) ⌝ }
-    ensures { λ _. ⌜ Put (now (out .entry)) 0 (outcomeText (played (now (s .entry)) (lent (now (z .entry)) (now (h .entry)) (now (q .entry)) (now (m .entry)) (now (b .entry)) (now (c .entry))) count t)) (now (out .exit)) ⌝ }
+    requires { ⌜ (length (now depth) ≤ 512) × ((length (now discharge) ≡ length (now depth)) × ((length (now mass) ≡ length (now depth)) × (65_536 ≤ length (now out)))) ⌝ }
+    ensures { λ r. ⌜ (r ≡ length (outcomeText (played (now (s .entry)) (lent (now (bed .entry)) (now (depth .entry)) (now (discharge .entry)) (now (mass .entry)) (now (base .entry)) (now (carried .entry))) count t))) × (r ≤ 65_536) ⌝ }
+    ensures { λ _. ⌜ Put (now (out .entry)) 0 (outcomeText (played (now (s .entry)) (lent (now (bed .entry)) (now (depth .entry)) (now (discharge .entry)) (now (mass .entry)) (now (base .entry)) (now (carried .entry))) count t)) (now (out .exit)) ⌝ }
 {
-    let r = play(s, z, h, q, m, b, c, count, t);
+    let r = play(s, bed, depth, discharge, mass, base, carried, count, t);
     let ledger = r.ledger;
     if r.refusal != 0 {
         return put_refused(out, r.refusal);
     }
-    put_report(out, h, q, m, ledger)
+    put_report(out, depth, discharge, mass, ledger)
 }
 
 // How many cells a sheet of k bytes holds

@@ -12,8 +12,8 @@ use Rattle.numbers.specs.Signed.{positive}
 use Rattle.numbers.proofs.IndexLaws.{all-of, all-at, all-below, on, only}
 use Rattle.numbers.proofs.SignedLaws.{R, L, abs-parts}
 use Rattle.flux.specs.Limits.{depthMost, velocityMost, bedMost, concentrationMost, cellLengthLeast, cellLengthMost}
-use Rattle.reach.specs.Limits.{cellsMost, carriedMost, totalMost, wall, openEnd, fed}
-use Rattle.reach.specs.Reach.{Reach, cells, bedAt, depthAt, dischargeAt, massAt, baseAt, carriedAt, leftEnd, rightEnd}
+use Rattle.reach.specs.Limits.{cellsMost, carriedMost, totalMost, wall, openBoundary, fed}
+use Rattle.reach.specs.Reach.{Reach, cells, bedAt, depthAt, dischargeAt, massAt, baseAt, carriedAt, leftBoundary, rightBoundary}
 use Rattle.reach.specs.Grounds.{firstRefusal, recordGrounds, passOr, lengthsFit, cellLengthFits, wallFits, openFits, fedFits, kindFits, boundaryFits, boundariesFit, cellFits, cellsFit, carriedFits, shutFits, carriedCellsFit, carriedFit, totalsFit, ledgerFits}
 use Rattle.reach.specs.declared.boundary.Boundary.{Boundary}
 use Rattle.reach.specs.declared.ledger.Totals.{Totals}
@@ -70,7 +70,7 @@ by-kind false false false w o f e p q r = let z : _≡_ {A = ℕ} 0 1 = cc in ab
 pub boundary-sound : (e : Boundary) → boundaryFits e ≡ true → BoundarySound e
 unfolding boundaryFits kindFits wallFits openFits fedFits
 boundary-sound e p =
-    by-kind (eqb (e .kind) wall) (eqb (e .kind) openEnd) (eqb (e .kind) fed) _ _ _ (all-of _ p 1)
+    by-kind (eqb (e .kind) wall) (eqb (e .kind) openBoundary) (eqb (e .kind) fed) _ _ _ (all-of _ p 1)
     (λ w. let t = all-of _ w in
     record {
       concentration = omega (arith, eqb-true (e .concentration) 0 (t 2));
@@ -198,13 +198,13 @@ pub record Sound (s : Reach) : Type 0 where
   pub interfaces : length (s .carried) ≡ cells s + 1
   pub lengthLeast : cellLengthLeast ≤ s .cellLength
   pub lengthMost : s .cellLength ≤ cellLengthMost
-  pub left : BoundarySound (leftEnd (s .ends))
-  pub right : BoundarySound (rightEnd (s .ends))
-  pub boundaries : boundariesFit (s .ends) ≡ true
+  pub left : BoundarySound (leftBoundary (s .boundaries))
+  pub right : BoundarySound (rightBoundary (s .boundaries))
+  pub boundaries : boundariesFit (s .boundaries) ≡ true
   pub cell : (i : ℕ) → i < cells s → CellSound (bedAt s i) (depthAt s i) (dischargeAt s i) (massAt s i) (baseAt s i)
   pub water : (i : ℕ) → i < cells s → CarriedSound (depthAt s i) (baseAt s i) (carriedAt s i) (carriedAt s (i + 1))
-  pub shutLeft : leftEnd (s .ends) .kind ≡ wall → carriedAt s 0 ≡ pos 0
-  pub shutRight : rightEnd (s .ends) .kind ≡ wall → carriedAt s (cells s) ≡ pos 0
+  pub shutLeft : leftBoundary (s .boundaries) .kind ≡ wall → carriedAt s 0 ≡ pos 0
+  pub shutRight : rightBoundary (s .boundaries) .kind ≡ wall → carriedAt s (cells s) ≡ pos 0
   pub ledger : ledgerFits (s .ledger) ≡ true
 
 module _ (s : Reach) (es : List Boundary) where
@@ -214,7 +214,7 @@ module _ (s : Reach) (es : List Boundary) where
       let t = stood (recordGrounds s es) e in
       let n = lengths-sound _ _ _ _ _ _ (t 0) in
       let x = all-of _ (t 1) in
-      let ends = all-of _ (t 2) in
+      let boundaries = all-of _ (t 2) in
       let water = all-of _ (t 5) in
       record {
         some = n .some;
@@ -226,13 +226,13 @@ module _ (s : Reach) (es : List Boundary) where
         interfaces = n .interfaces;
         lengthLeast = leb-true _ _ (x 0);
         lengthMost = leb-true _ _ (x 1);
-        left = boundary-sound _ (ends 0);
-        right = boundary-sound _ (ends 1);
+        left = boundary-sound _ (boundaries 0);
+        right = boundary-sound _ (boundaries 1);
         boundaries = t 2;
         cell = cells-sound _ _ _ _ _ (t 4);
         water = λ i l. carried-sound _ _ _ _ (all-at _ (length (s .depth)) i (water 0) (omega arith));
         shutLeft = shut-sound _ _ (water 1);
-        shutRight = rw (n .depths) at (shut-sound (rightEnd (s .ends) .kind) (carriedAt s (length (s .depth))) (water 2));
+        shutRight = rw (n .depths) at (shut-sound (rightBoundary (s .boundaries) .kind) (carriedAt s (length (s .depth))) (water 2));
         ledger = t 6;
       }
 

@@ -4,7 +4,7 @@ use mathlib.Core.List.{List}
 use Prim.Native.Nat.{ℕ, _+_, _*_, _≤_, _<_}
 use Rattle.numbers.specs.Index.{sum}
 use Rattle.reach.specs.Limits.{wall}
-use Rattle.reach.specs.Reach.{Reach, cells, massAt, baseAt, leftEnd, rightEnd}
+use Rattle.reach.specs.Reach.{Reach, cells, massAt, baseAt, leftBoundary, rightBoundary}
 use Rattle.reach.specs.declared.boundary.Boundary.{Boundary}
 use Rattle.reach.specs.declared.ledger.Ledger.{Ledger}
 
@@ -40,10 +40,10 @@ pub record CellsWithin (lo hi : ℕ) (s : Reach) : Type 0 where
   pub below : (i : ℕ) → i < cells s → massAt s i ≤ hi * baseAt s i
 
 -- and an end, but a wall, when its concentration lies from the lower to the upper
-pub record EndWithin (lo hi : ℕ) (e : Boundary) : Type 0 where
+pub record BoundaryWithin (lo hi : ℕ) (e : Boundary) : Type 0 where
   pub above : (e .kind ≡ wall → ⊥) → lo ≤ e .concentration
   pub below : (e .kind ≡ wall → ⊥) → e .concentration ≤ hi
 
-pub record EndsWithin (lo hi : ℕ) (es : List Boundary) : Type 0 where
-  pub left : EndWithin lo hi (leftEnd es)
-  pub right : EndWithin lo hi (rightEnd es)
+pub record BoundariesWithin (lo hi : ℕ) (es : List Boundary) : Type 0 where
+  pub left : BoundaryWithin lo hi (leftBoundary es)
+  pub right : BoundaryWithin lo hi (rightBoundary es)

@@ -8,8 +8,8 @@ use lib.Dec.{leb, eqb}
 use Rattle.numbers.specs.Index.{allOf, allBelow}
 use Rattle.numbers.specs.Signed.{positive, eqℤ}
 use Rattle.flux.specs.Limits.{depthMost, velocityMost, bedMost, concentrationMost, cellLengthLeast, cellLengthMost}
-use Rattle.reach.specs.Limits.{cellsMost, carriedMost, totalMost, wall, openEnd, fed}
-use Rattle.reach.specs.Reach.{Reach, leftEnd, rightEnd}
+use Rattle.reach.specs.Limits.{cellsMost, carriedMost, totalMost, wall, openBoundary, fed}
+use Rattle.reach.specs.Reach.{Reach, leftBoundary, rightBoundary}
 use Rattle.reach.specs.declared.boundary.Boundary.{Boundary}
 use Rattle.reach.specs.declared.ledger.Totals.{Totals}
 use Rattle.reach.specs.declared.ledger.Ledger.{Ledger}
@@ -66,13 +66,13 @@ fedFits h k q = allOf (leb 1 h ∷ leb h depthMost ∷ leb (natAbs q) (velocityM
 
 unfoldable pub kindFits : (kind depth concentration : ℕ) (discharge : ℤ) → Bool
 kindFits kind h k q =
-    cond (eqb kind wall) (wallFits h k q) (cond (eqb kind openEnd) (openFits h k q) (cond (eqb kind fed) (fedFits h k q) false))
+    cond (eqb kind wall) (wallFits h k q) (cond (eqb kind openBoundary) (openFits h k q) (cond (eqb kind fed) (fedFits h k q) false))
 
 unfoldable pub boundaryFits : Boundary → Bool
 boundaryFits e = allOf (eqb (e .reserved) 0 ∷ kindFits (e .kind) (e .depth) (e .concentration) (e .discharge) ∷ [])
 
 unfoldable pub boundariesFit : List Boundary → Bool
-boundariesFit es = allOf (boundaryFits (leftEnd es) ∷ boundaryFits (rightEnd es) ∷ [])
+boundariesFit es = allOf (boundaryFits (leftBoundary es) ∷ boundaryFits (rightBoundary es) ∷ [])
 
 -- ---- 7: the values of a cell are in range
 unfoldable pub cellFits : (z : ℤ) (h : ℕ) (q : ℤ) (m b : ℕ) → Bool
@@ -132,9 +132,9 @@ abbrev pub recordGrounds : Reach → List Boundary → List Ground
 recordGrounds s es =
     ground 4 (lengthsFit (length (s .bed)) (length (s .depth)) (length (s .discharge)) (length (s .mass)) (length (s .base)) (length (s .carried)))
     ∷ ground 5 (cellLengthFits (s .cellLength))
-    ∷ ground 6 (boundariesFit (s .ends))
+    ∷ ground 6 (boundariesFit (s .boundaries))
     ∷ ground 6 (boundariesFit es)
     ∷ ground 7 (cellsFit (s .bed) (s .depth) (s .discharge) (s .mass) (s .base))
-    ∷ ground 8 (carriedFit (s .depth) (s .base) (s .carried) (leftEnd (s .ends) .kind) (rightEnd (s .ends) .kind))
+    ∷ ground 8 (carriedFit (s .depth) (s .base) (s .carried) (leftBoundary (s .boundaries) .kind) (rightBoundary (s .boundaries) .kind))
     ∷ ground 9 (ledgerFits (s .ledger))
     ∷ []

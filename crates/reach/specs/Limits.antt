@@ -17,8 +17,8 @@ totalMost = 1_000_000_000_000_000_000
 abbrev pub wall : ℕ
 wall = 0
 
-abbrev pub openEnd : ℕ
-openEnd = 1
+abbrev pub openBoundary : ℕ
+openBoundary = 1
 
 abbrev pub fed : ℕ
 fed = 2

@@ -21,11 +21,11 @@ pub record Reach : Type 0 where
   -- X, mm
   pub cellLength : ℕ
   -- the left and the right boundary
-  pub ends : List Boundary
+  pub boundaries : List Boundary
   pub ledger : Ledger
 
 abbrev pub reachOf : List ℤ → List ℕ → List ℤ → List ℕ → List ℕ → List ℤ → ℕ → List Boundary → Ledger → Reach
-reachOf z h q m b c X es k = record { bed = z; depth = h; discharge = q; mass = m; base = b; carried = c; cellLength = X; ends = es; ledger = k }
+reachOf z h q m b c X es k = record { bed = z; depth = h; discharge = q; mass = m; base = b; carried = c; cellLength = X; boundaries = es; ledger = k }
 
 -- n
 abbrev pub cells : Reach → ℕ
@@ -54,8 +54,8 @@ carriedAt s i = getD (s .carried) i (pos 0)
 abbrev pub noBoundary : Boundary
 noBoundary = record { kind = 0; reserved = 0; depth = 0; concentration = 0; discharge = pos 0 }
 
-abbrev pub leftEnd : List Boundary → Boundary
-leftEnd es = getD es 0 noBoundary
+abbrev pub leftBoundary : List Boundary → Boundary
+leftBoundary es = getD es 0 noBoundary
 
-abbrev pub rightEnd : List Boundary → Boundary
-rightEnd es = getD es 1 noBoundary
+abbrev pub rightBoundary : List Boundary → Boundary
+rightBoundary es = getD es 1 noBoundary

@@ -88,13 +88,13 @@ fn boundary_fits(e: Boundary) -> bool
     kind_fits(e.kind, e.depth, e.concentration, e.discharge)
 }
 
-pub fn check_boundaries(ends: [Boundary; 2]) -> Check
-    ensures { λ r. ⌜ r ≡ passOr 6 (boundariesFit ends) ⌝ }
+pub fn check_boundaries(boundaries: [Boundary; 2]) -> Check
+    ensures { λ r. ⌜ r ≡ passOr 6 (boundariesFit boundaries) ⌝ }
 {
-    if !boundary_fits(ends[0]) {
+    if !boundary_fits(boundaries[0]) {
         return Check::Refused(6);
     }
-    if !boundary_fits(ends[1]) {
+    if !boundary_fits(boundaries[1]) {
         return Check::Refused(6);
     }
     Check::Pass

@@ -41,14 +41,14 @@ fn shut_fits(kind: u32, c: i64) -> bool
     magnitude(c) == 0
 }
 
-fn check_carried_cells(h: &[u64], b: &[u64], c: &[i64]) -> Check
-    requires { ⌜ CarriedLengths (now h) (now b) (now c) ⌝ }
-    ensures { λ r. ⌜ r ≡ passOr 8 (carriedCellsFit (now (h .entry)) (now (b .entry)) (now (c .entry))) ⌝ }
+fn check_carried_cells(depth: &[u64], base: &[u64], carried: &[i64]) -> Check
+    requires { ⌜ CarriedLengths (now depth) (now base) (now carried) ⌝ }
+    ensures { λ r. ⌜ r ≡ passOr 8 (carriedCellsFit (now (depth .entry)) (now (base .entry)) (now (carried .entry))) ⌝ }
 {
-    let n = h.len();
+    let n = depth.len();
     let mut i = 0;
     while i < n {
-        if !carried_fits(h[i], b[i], c[i], c[i + 1]) {
+        if !carried_fits(depth[i], base[i], carried[i], carried[i + 1]) {
             return Check::Refused(8);
         }
         i += 1;
@@ -56,17 +56,23 @@ fn check_carried_cells(h: &[u64], b: &[u64], c: &[i64]) -> Check
     Check::Pass
 }
 
-pub fn check_carried(h: &[u64], b: &[u64], c: &[i64], left_kind: u32, right_kind: u32) -> Check
-    requires { ⌜ CarriedLengths (now h) (now b) (now c) ⌝ }
-    ensures { λ r. ⌜ r ≡ passOr 8 (carriedFit (now (h .entry)) (now (b .entry)) (now (c .entry)) «left_kind» «right_kind») ⌝ }
+pub fn check_carried(
+    depth: &[u64],
+    base: &[u64],
+    carried: &[i64],
+    left_kind: u32,
+    right_kind: u32,
+) -> Check
+    requires { ⌜ CarriedLengths (now depth) (now base) (now carried) ⌝ }
+    ensures { λ r. ⌜ r ≡ passOr 8 (carriedFit (now (depth .entry)) (now (base .entry)) (now (carried .entry)) «left_kind» «right_kind») ⌝ }
 {
-    let Check::Pass = check_carried_cells(h, b, c) else {
+    let Check::Pass = check_carried_cells(depth, base, carried) else {
         return Check::Refused(8);
     };
-    if !shut_fits(left_kind, c[0]) {
+    if !shut_fits(left_kind, carried[0]) {
         return Check::Refused(8);
     }
-    if !shut_fits(right_kind, c[h.len()]) {
+    if !shut_fits(right_kind, carried[depth.len()]) {
         return Check::Refused(8);
     }
     Check::Pass

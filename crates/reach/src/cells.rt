@@ -9,34 +9,55 @@ use numbers::signed::magnitude;
 // The cells of a reach: work arrays of the calls are as long
 pub const CELLS_MOST: usize = 512;
 
-fn lengths_fit(z: usize, h: usize, q: usize, m: usize, b: usize, c: usize) -> bool
-    ensures { λ r. ⌜ r ≡ lengthsFit z h q m b c ⌝ }
+fn lengths_fit(
+    bed: usize,
+    depth: usize,
+    discharge: usize,
+    mass: usize,
+    base: usize,
+    carried: usize,
+) -> bool
+    ensures { λ r. ⌜ r ≡ lengthsFit bed depth discharge mass base carried ⌝ }
 {
-    if z < 1 {
+    if bed < 1 {
         return false;
     }
-    if CELLS_MOST < z {
+    if CELLS_MOST < bed {
         return false;
     }
-    if h != z {
+    if depth != bed {
         return false;
     }
-    if q != z {
+    if discharge != bed {
         return false;
     }
-    if m != z {
+    if mass != bed {
         return false;
     }
-    if b != z {
+    if base != bed {
         return false;
     }
-    c == z + 1
+    carried == bed + 1
 }
 
-pub fn check_lengths(z: &[i64], h: &[u64], q: &[i64], m: &[u64], b: &[u64], c: &[i64]) -> Check
-    ensures { λ r. ⌜ r ≡ passOr 4 (lengthsFit (length (now (z .entry))) (length (now (h .entry))) (length (now (q .entry))) (length (now (m .entry))) (length (now (b .entry))) (length (now (c .entry)))) ⌝ }
+pub fn check_lengths(
+    bed: &[i64],
+    depth: &[u64],
+    discharge: &[i64],
+    mass: &[u64],
+    base: &[u64],
+    carried: &[i64],
+) -> Check
+    ensures { λ r. ⌜ r ≡ passOr 4 (lengthsFit (length (now (bed .entry))) (length (now (depth .entry))) (length (now (discharge .entry))) (length (now (mass .entry))) (length (now (base .entry))) (length (now (carried .entry)))) ⌝ }
 {
-    if !lengths_fit(z.len(), h.len(), q.len(), m.len(), b.len(), c.len()) {
+    if !lengths_fit(
+        bed.len(),
+        depth.len(),
+        discharge.len(),
+        mass.len(),
+        base.len(),
+        carried.len(),
+    ) {
         return Check::Refused(4);
     }
     Check::Pass
@@ -78,14 +99,20 @@ pub fn cell_fits(z: i64, h: u64, q: i64, m: u64, b: u64) -> bool
     m <= 500_000 * b
 }
 
-pub fn check_cells(z: &[i64], h: &[u64], q: &[i64], m: &[u64], b: &[u64]) -> Check
-    requires { ⌜ CellLengths (length (now z)) (length (now h)) (length (now q)) (length (now m)) (length (now b)) ⌝ }
-    ensures { λ r. ⌜ r ≡ passOr 7 (cellsFit (now (z .entry)) (now (h .entry)) (now (q .entry)) (now (m .entry)) (now (b .entry))) ⌝ }
+pub fn check_cells(
+    bed: &[i64],
+    depth: &[u64],
+    discharge: &[i64],
+    mass: &[u64],
+    base: &[u64],
+) -> Check
+    requires { ⌜ CellLengths (length (now bed)) (length (now depth)) (length (now discharge)) (length (now mass)) (length (now base)) ⌝ }
+    ensures { λ r. ⌜ r ≡ passOr 7 (cellsFit (now (bed .entry)) (now (depth .entry)) (now (discharge .entry)) (now (mass .entry)) (now (base .entry))) ⌝ }
 {
-    let n = z.len();
+    let n = bed.len();
     let mut i = 0;
     while i < n {
-        if !cell_fits(z[i], h[i], q[i], m[i], b[i]) {
+        if !cell_fits(bed[i], depth[i], discharge[i], mass[i], base[i]) {
             return Check::Refused(7);
         }
         i += 1;

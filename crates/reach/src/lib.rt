@@ -25,35 +25,36 @@ use refusal::Check;
 // Grounds 4 to 9 in checking order. A call that is given a new pair of boundaries has it checked as `given`; any other gives the pair
 // that it holds.
 pub fn check_record(
-    z: &[i64],
-    h: &[u64],
-    q: &[i64],
-    m: &[u64],
-    b: &[u64],
-    c: &[i64],
+    bed: &[i64],
+    depth: &[u64],
+    discharge: &[i64],
+    mass: &[u64],
+    base: &[u64],
+    carried: &[i64],
     x: u64,
-    ends: [Boundary; 2],
+    boundaries: [Boundary; 2],
     ledger: Ledger,
     given: [Boundary; 2],
 ) -> Check
-    ensures { λ r. ⌜ r ≡ firstRefusal (recordGrounds (reachOf (now (z .entry)) (now (h .entry)) (now (q .entry)) (now (m .entry)) (now (b .entry)) (now (c .entry)) x ends ledger) given) ⌝ }
+    ensures { λ r. ⌜ r ≡ firstRefusal (recordGrounds (reachOf (now (bed .entry)) (now (depth .entry)) (now (discharge .entry)) (now (mass .entry)) (now (base .entry)) (now (carried .entry)) x boundaries ledger) given) ⌝ }
 {
-    let Check::Pass = check_lengths(z, h, q, m, b, c) else {
+    let Check::Pass = check_lengths(bed, depth, discharge, mass, base, carried) else {
         return Check::Refused(4);
     };
     let Check::Pass = check_cell_length(x) else {
         return Check::Refused(5);
     };
-    let Check::Pass = check_boundaries(ends) else {
+    let Check::Pass = check_boundaries(boundaries) else {
         return Check::Refused(6);
     };
     let Check::Pass = check_boundaries(given) else {
         return Check::Refused(6);
     };
-    let Check::Pass = check_cells(z, h, q, m, b) else {
+    let Check::Pass = check_cells(bed, depth, discharge, mass, base) else {
         return Check::Refused(7);
     };
-    let Check::Pass = check_carried(h, b, c, ends[0].kind, ends[1].kind) else {
+    let Check::Pass = check_carried(depth, base, carried, boundaries[0].kind, boundaries[1].kind)
+    else {
         return Check::Refused(8);
     };
     check_ledger(ledger)

@@ -15,8 +15,8 @@ use Rattle.text.specs.Text.{decimal, signedDecimal}
 unfoldable pub cellsWord : List ℕ
 cellsWord = 99 ∷ 101 ∷ 108 ∷ 108 ∷ 115 ∷ 32 ∷ []
 
-unfoldable pub bookWord : List ℕ
-bookWord = 98 ∷ 111 ∷ 111 ∷ 107 ∷ []
+unfoldable pub ledgerWord : List ℕ
+ledgerWord = 98 ∷ 111 ∷ 111 ∷ 107 ∷ []
 
 unfoldable pub refusedWord : List ℕ
 refusedWord = 114 ∷ 101 ∷ 102 ∷ 117 ∷ 115 ∷ 101 ∷ 100 ∷ 32 ∷ []
@@ -42,11 +42,11 @@ unfoldable pub columnsText : (h : List ℕ) (q : List ℤ) (m : List ℕ) → Li
 columnsText h q m = cellsWord ++ decimal (length h) ++ (10 ∷ []) ++ cellLines h q m (length h)
 
 -- `book` with eight totals: left, then right
-unfoldable pub bookText : Ledger → List ℕ
-bookText k = bookWord ++ totalsText (k .left) ++ totalsText (k .right) ++ (10 ∷ [])
+unfoldable pub ledgerText : Ledger → List ℕ
+ledgerText k = ledgerWord ++ totalsText (k .left) ++ totalsText (k .right) ++ (10 ∷ [])
 
 unfoldable pub reportText : (h : List ℕ) (q : List ℤ) (m : List ℕ) → Ledger → List ℕ
-reportText h q m k = columnsText h q m ++ bookText k
+reportText h q m k = columnsText h q m ++ ledgerText k
 
 -- a refusal prints only `refused` and the number
 unfoldable pub refusedText : ℕ → List ℕ

@@ -3,7 +3,7 @@ ghost use mathlib.Core.Path.{_≡_};
 ghost use Prim.Native.Nat.{_+_, _*_, _≤_};
 ghost use lib.ListN.{length};
 ghost use Rattle.text.specs.Text.{Put};
-ghost use Rattle.report.specs.Report.{spaced, cellLine, cellLines, totalsText, columnsText, bookText, reportText, refusedText};
+ghost use Rattle.report.specs.Report.{spaced, cellLine, cellLines, totalsText, columnsText, ledgerText, reportText, refusedText};
 use reach::ledger::Ledger;
 use reach::ledger::Totals;
 use text::put_byte;
@@ -33,17 +33,17 @@ fn put_cell(out: &mut [u8], at: usize, i: u64, h: u64, q: i64, m: u64) -> usize
     put_byte(out, mass, b'\n')
 }
 
-fn put_cells(out: &mut [u8], at: usize, h: &[u64], q: &[i64], m: &[u64]) -> usize
-    requires { ⌜ (length (now q) ≡ length (now h)) × (length (now m) ≡ length (now h)) ⌝ }
-    requires { ⌜ at + 96 * length (now h) ≤ length (now out) ⌝ }
-    ensures { λ r. ⌜ (r ≡ at + length (cellLines (now (h .entry)) (now (q .entry)) (now (m .entry)) (length (now (h .entry))))) × (r ≤ at + 96 * length (now (h .entry))) ⌝ }
-    ensures { λ _. ⌜ Put (now (out .entry)) at (cellLines (now (h .entry)) (now (q .entry)) (now (m .entry)) (length (now (h .entry)))) (now (out .exit)) ⌝ }
+fn put_cells(out: &mut [u8], at: usize, depth: &[u64], discharge: &[i64], mass: &[u64]) -> usize
+    requires { ⌜ (length (now discharge) ≡ length (now depth)) × (length (now mass) ≡ length (now depth)) ⌝ }
+    requires { ⌜ at + 96 * length (now depth) ≤ length (now out) ⌝ }
+    ensures { λ r. ⌜ (r ≡ at + length (cellLines (now (depth .entry)) (now (discharge .entry)) (now (mass .entry)) (length (now (depth .entry))))) × (r ≤ at + 96 * length (now (depth .entry))) ⌝ }
+    ensures { λ _. ⌜ Put (now (out .entry)) at (cellLines (now (depth .entry)) (now (discharge .entry)) (now (mass .entry)) (length (now (depth .entry)))) (now (out .exit)) ⌝ }
 {
-    let n = h.len();
+    let n = depth.len();
     let mut next = at;
     let mut i = 0;
     while i < n {
-        next = put_cell(out, next, i as u64, h[i], q[i], m[i]);
+        next = put_cell(out, next, i as u64, depth[i], discharge[i], mass[i]);
         i += 1;
     }
     next
@@ -61,23 +61,23 @@ fn put_totals(out: &mut [u8], at: usize, t: Totals) -> usize
 }
 
 // `cells n` and a line per cell
-fn put_columns(out: &mut [u8], h: &[u64], q: &[i64], m: &[u64]) -> usize
-    requires { ⌜ (length (now q) ≡ length (now h)) × (length (now m) ≡ length (now h)) ⌝ }
-    requires { ⌜ 96 * length (now h) + 32 ≤ length (now out) ⌝ }
-    ensures { λ r. ⌜ (r ≡ length (columnsText (now (h .entry)) (now (q .entry)) (now (m .entry)))) × (r ≤ 96 * length (now (h .entry)) + 27) ⌝ }
-    ensures { λ _. ⌜ Put (now (out .entry)) 0 (columnsText (now (h .entry)) (now (q .entry)) (now (m .entry))) (now (out .exit)) ⌝ }
+fn put_columns(out: &mut [u8], depth: &[u64], discharge: &[i64], mass: &[u64]) -> usize
+    requires { ⌜ (length (now discharge) ≡ length (now depth)) × (length (now mass) ≡ length (now depth)) ⌝ }
+    requires { ⌜ 96 * length (now depth) + 32 ≤ length (now out) ⌝ }
+    ensures { λ r. ⌜ (r ≡ length (columnsText (now (depth .entry)) (now (discharge .entry)) (now (mass .entry)))) × (r ≤ 96 * length (now (depth .entry)) + 27) ⌝ }
+    ensures { λ _. ⌜ Put (now (out .entry)) 0 (columnsText (now (depth .entry)) (now (discharge .entry)) (now (mass .entry))) (now (out .exit)) ⌝ }
 {
     let word = put_word(out, 0, b"cells ");
-    let count = put_decimal(out, word, h.len() as u64);
+    let count = put_decimal(out, word, depth.len() as u64);
     let line = put_byte(out, count, b'\n');
-    put_cells(out, line, h, q, m)
+    put_cells(out, line, depth, discharge, mass)
 }
 
 // `book` and the eight totals
-fn put_book(out: &mut [u8], at: usize, k: Ledger) -> usize
+fn put_ledger(out: &mut [u8], at: usize, k: Ledger) -> usize
     requires { ⌜ at + 173 ≤ length (now out) ⌝ }
-    ensures { λ r. ⌜ (r ≡ at + length (bookText k)) × (r ≤ at + 173) ⌝ }
-    ensures { λ _. ⌜ Put (now (out .entry)) at (bookText k) (now (out .exit)) ⌝ }
+    ensures { λ r. ⌜ (r ≡ at + length (ledgerText k)) × (r ≤ at + 173) ⌝ }
+    ensures { λ _. ⌜ Put (now (out .entry)) at (ledgerText k) (now (out .exit)) ⌝ }
 {
     let word = put_word(out, at, b"book");
     let left = k.left;
@@ -87,14 +87,20 @@ fn put_book(out: &mut [u8], at: usize, k: Ledger) -> usize
     put_byte(out, second, b'\n')
 }
 
-pub fn put_report(out: &mut [u8], h: &[u64], q: &[i64], m: &[u64], k: Ledger) -> usize
-    requires { ⌜ (length (now q) ≡ length (now h)) × (length (now m) ≡ length (now h)) ⌝ }
-    requires { ⌜ 96 * length (now h) + 256 ≤ length (now out) ⌝ }
-    ensures { λ r. ⌜ (r ≡ length (reportText (now (h .entry)) (now (q .entry)) (now (m .entry)) k)) × (r ≤ 96 * length (now (h .entry)) + 256) ⌝ }
-    ensures { λ _. ⌜ Put (now (out .entry)) 0 (reportText (now (h .entry)) (now (q .entry)) (now (m .entry)) k) (now (out .exit)) ⌝ }
+pub fn put_report(
+    out: &mut [u8],
+    depth: &[u64],
+    discharge: &[i64],
+    mass: &[u64],
+    k: Ledger,
+) -> usize
+    requires { ⌜ (length (now discharge) ≡ length (now depth)) × (length (now mass) ≡ length (now depth)) ⌝ }
+    requires { ⌜ 96 * length (now depth) + 256 ≤ length (now out) ⌝ }
+    ensures { λ r. ⌜ (r ≡ length (reportText (now (depth .entry)) (now (discharge .entry)) (now (mass .entry)) k)) × (r ≤ 96 * length (now (depth .entry)) + 256) ⌝ }
+    ensures { λ _. ⌜ Put (now (out .entry)) 0 (reportText (now (depth .entry)) (now (discharge .entry)) (now (mass .entry)) k) (now (out .exit)) ⌝ }
 {
-    let next = put_columns(out, h, q, m);
-    put_book(out, next, k)
+    let next = put_columns(out, depth, discharge, mass);
+    put_ledger(out, next, k)
 }
 
 pub fn put_refused(out: &mut [u8], n: u32) -> usize

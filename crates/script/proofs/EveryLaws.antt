@@ -9,7 +9,7 @@ use lib.Seq.{getD-append-add, drop-append-seam, take-append-seam}
 use Rattle.reach.specs.declared.boundary.Boundary.{Boundary}
 use Rattle.sheet.specs.Bytes.{twos}
 use Rattle.sheet.proofs.BytesLaws.{twos-low, twos-high}
-use Rattle.tally.specs.Call.{Call, stepBy, settle, setEnds, askGreatest, writeInto, reopen}
+use Rattle.tally.specs.Call.{Call, stepCall, transportCall, boundariesCall, greatestCall, writeCall, openCall}
 use Rattle.tally.specs.Holds.{Each}
 use Rattle.script.specs.Script.{boundaryFrom, part, callAt, callsFrom, script}
 use Rattle.script.specs.Every.{Word, HalfWord, Byte, SignedWord, Stored, Given, sheetsSize, EveryList}
@@ -32,28 +32,28 @@ tenOf (e ∷ f ∷ g ∷ es) = 0 ∷ 0 ∷ 0 ∷ 0 ∷ 0 ∷ 0 ∷ 0 ∷ 0 ∷ 0
 
 -- one call's thirteen, where its sheet, if it has one, stands from byte `start` on
 oneOf : (start : ℕ) → Call → List ℕ
-oneOf start (stepBy t) = 0 ∷ t ∷ 0 ∷ tenOf []
-oneOf start settle = 1 ∷ 0 ∷ 0 ∷ tenOf []
-oneOf start (setEnds es) = 2 ∷ 0 ∷ 0 ∷ tenOf es
-oneOf start askGreatest = 3 ∷ 0 ∷ 0 ∷ tenOf []
-oneOf start (writeInto room) = 4 ∷ room ∷ 0 ∷ tenOf []
-oneOf start (reopen sheet) = 5 ∷ start ∷ (start + length sheet) ∷ tenOf []
+oneOf start (stepCall t) = 0 ∷ t ∷ 0 ∷ tenOf []
+oneOf start transportCall = 1 ∷ 0 ∷ 0 ∷ tenOf []
+oneOf start (boundariesCall es) = 2 ∷ 0 ∷ 0 ∷ tenOf es
+oneOf start greatestCall = 3 ∷ 0 ∷ 0 ∷ tenOf []
+oneOf start (writeCall room) = 4 ∷ room ∷ 0 ∷ tenOf []
+oneOf start (openCall sheet) = 5 ∷ start ∷ (start + length sheet) ∷ tenOf []
 
 sheetOf : Call → List ℕ
-sheetOf (stepBy t) = []
-sheetOf settle = []
-sheetOf (setEnds es) = []
-sheetOf askGreatest = []
-sheetOf (writeInto room) = []
-sheetOf (reopen sheet) = sheet
+sheetOf (stepCall t) = []
+sheetOf transportCall = []
+sheetOf (boundariesCall es) = []
+sheetOf greatestCall = []
+sheetOf (writeCall room) = []
+sheetOf (openCall sheet) = sheet
 
 roomBy : Call → ℕ
-roomBy (stepBy t) = 0
-roomBy settle = 0
-roomBy (setEnds es) = 0
-roomBy askGreatest = 0
-roomBy (writeInto room) = room
-roomBy (reopen sheet) = 0
+roomBy (stepCall t) = 0
+roomBy transportCall = 0
+roomBy (boundariesCall es) = 0
+roomBy greatestCall = 0
+roomBy (writeCall room) = room
+roomBy (openCall sheet) = 0
 
 wordsOf : (start : ℕ) → List Call → List ℕ
 wordsOf start [] = []
@@ -79,12 +79,12 @@ ten-length (e ∷ f ∷ g ∷ es) = refl
 
 one-length : (start : ℕ) (c : Call) → length (oneOf start c) ≡ 13
 unfolding oneOf tenOf
-one-length start (stepBy t) = refl
-one-length start settle = refl
-one-length start (setEnds es) = ap (λ (n : ℕ). suc (suc (suc n))) (ten-length es)
-one-length start askGreatest = refl
-one-length start (writeInto room) = refl
-one-length start (reopen sheet) = refl
+one-length start (stepCall t) = refl
+one-length start transportCall = refl
+one-length start (boundariesCall es) = ap (λ (n : ℕ). suc (suc (suc n))) (ten-length es)
+one-length start greatestCall = refl
+one-length start (writeCall room) = refl
+one-length start (openCall sheet) = refl
 
 words-length : (start : ℕ) (cs : List Call) → length (wordsOf start cs) ≡ 13 * length cs
 unfolding wordsOf
@@ -95,12 +95,12 @@ words-length start (c ∷ cs) =
 
 size-one : (c : Call) (cs : List Call) → sheetsSize (c ∷ cs) ≡ length (sheetOf c) + sheetsSize cs
 unfolding sheetsSize sheetOf
-size-one (stepBy t) cs = omega arith
-size-one settle cs = omega arith
-size-one (setEnds es) cs = omega arith
-size-one askGreatest cs = omega arith
-size-one (writeInto room) cs = omega arith
-size-one (reopen sheet) cs = refl
+size-one (stepCall t) cs = omega arith
+size-one transportCall cs = omega arith
+size-one (boundariesCall es) cs = omega arith
+size-one greatestCall cs = omega arith
+size-one (writeCall room) cs = omega arith
+size-one (openCall sheet) cs = refl
 
 -- ---- what stands behind other words is read as if it stood alone
 
@@ -148,12 +148,12 @@ twos-back (negsuc n) l =
 half-back : (v : ℕ) → HalfWord v → v % 4_294_967_296 ≡ v
 half-back v l = omega arith
 
-ends-back : (es : List Boundary) (q sheets : List ℕ) (room : ℕ) → length es ≡ 2 → Each Stored es
-    → callAt (2 ∷ 0 ∷ 0 ∷ (tenOf es ++ q)) sheets room 0 ≡ setEnds es
+boundaries-back : (es : List Boundary) (q sheets : List ℕ) (room : ℕ) → length es ≡ 2 → Each Stored es
+    → callAt (2 ∷ 0 ∷ 0 ∷ (tenOf es ++ q)) sheets room 0 ≡ boundariesCall es
 unfolding callAt boundaryFrom tenOf Each
-ends-back [] q sheets room n s = absurd (omega arith)
-ends-back (e ∷ []) q sheets room n s = absurd (omega arith)
-ends-back (e ∷ f ∷ []) q sheets room n s =
+boundaries-back [] q sheets room n s = absurd (omega arith)
+boundaries-back (e ∷ []) q sheets room n s = absurd (omega arith)
+boundaries-back (e ∷ f ∷ []) q sheets room n s =
     let a = s .0 in
     let b = s .1 .0 in
     simp (
@@ -164,7 +164,7 @@ ends-back (e ∷ f ∷ []) q sheets room n s =
       half-back (f .reserved) (b .reserved),
       twos-back (f .discharge) (b .discharge),
     )
-ends-back (e ∷ f ∷ g ∷ es) q sheets room n s = absurd (omega arith)
+boundaries-back (e ∷ f ∷ g ∷ es) q sheets room n s = absurd (omega arith)
 
 part-back : (front s tail sheets : List ℕ) → sheets ≡ front ++ (s ++ tail) → part sheets (length front) (length front + length s) ≡ s
 unfolding part
@@ -177,12 +177,12 @@ part-back front s tail sheets e =
 one-back : (c : Call) (start : ℕ) (front tail sheets q : List ℕ) (room : ℕ) → Given c → length front ≡ start
     → sheets ≡ front ++ (sheetOf c ++ tail) → roomBy c ≤ room → callAt (oneOf start c ++ q) sheets room 0 ≡ c
 unfolding callAt oneOf tenOf sheetOf roomBy
-one-back (stepBy t) start front tail sheets q room g e s r = refl
-one-back settle start front tail sheets q room g e s r = refl
-one-back (setEnds es) start front tail sheets q room g e s r = ends-back es q sheets room (g .0) (g .1)
-one-back askGreatest start front tail sheets q room g e s r = refl
-one-back (writeInto n) start front tail sheets q room g e s r = ap writeInto (omega arith)
-one-back (reopen sheet) start front tail sheets q room g e s r = ap reopen (rw (← e) (part-back front sheet tail sheets s))
+one-back (stepCall t) start front tail sheets q room g e s r = refl
+one-back transportCall start front tail sheets q room g e s r = refl
+one-back (boundariesCall es) start front tail sheets q room g e s r = boundaries-back es q sheets room (g .0) (g .1)
+one-back greatestCall start front tail sheets q room g e s r = refl
+one-back (writeCall n) start front tail sheets q room g e s r = ap writeCall (omega arith)
+one-back (openCall sheet) start front tail sheets q room g e s r = ap openCall (rw (← e) (part-back front sheet tail sheets s))
 
 -- ---- the list read back
 
@@ -248,12 +248,12 @@ ten-fit (e ∷ f ∷ g ∷ es) n s = absurd (omega arith)
 
 one-fit : (start : ℕ) (c : Call) → Given c → Word (start + length (sheetOf c)) → Each Word (oneOf start c)
 unfolding Each oneOf sheetOf
-one-fit start (stepBy t) g l = (omega arith, (g, (omega arith, zeros-fit)))
-one-fit start settle g l = (omega arith, (omega arith, (omega arith, zeros-fit)))
-one-fit start (setEnds es) g l = (omega arith, (omega arith, (omega arith, ten-fit es (g .0) (g .1))))
-one-fit start askGreatest g l = (omega arith, (omega arith, (omega arith, zeros-fit)))
-one-fit start (writeInto room) g l = (omega arith, (g, (omega arith, zeros-fit)))
-one-fit start (reopen sheet) g l = (omega arith, (omega arith, (l, zeros-fit)))
+one-fit start (stepCall t) g l = (omega arith, (g, (omega arith, zeros-fit)))
+one-fit start transportCall g l = (omega arith, (omega arith, (omega arith, zeros-fit)))
+one-fit start (boundariesCall es) g l = (omega arith, (omega arith, (omega arith, ten-fit es (g .0) (g .1))))
+one-fit start greatestCall g l = (omega arith, (omega arith, (omega arith, zeros-fit)))
+one-fit start (writeCall room) g l = (omega arith, (g, (omega arith, zeros-fit)))
+one-fit start (openCall sheet) g l = (omega arith, (omega arith, (l, zeros-fit)))
 
 words-fit : (start : ℕ) (cs : List Call) → Each Given cs → Word (start + sheetsSize cs) → Each Word (wordsOf start cs)
 unfolding Each wordsOf
@@ -265,12 +265,12 @@ words-fit start (c ∷ cs) g l =
 
 sheet-fit : (c : Call) → Given c → Each Byte (sheetOf c)
 unfolding Each sheetOf
-sheet-fit (stepBy t) g = tt
-sheet-fit settle g = tt
-sheet-fit (setEnds es) g = tt
-sheet-fit askGreatest g = tt
-sheet-fit (writeInto room) g = tt
-sheet-fit (reopen sheet) g = g
+sheet-fit (stepCall t) g = tt
+sheet-fit transportCall g = tt
+sheet-fit (boundariesCall es) g = tt
+sheet-fit greatestCall g = tt
+sheet-fit (writeCall room) g = tt
+sheet-fit (openCall sheet) g = g
 
 sheets-fit : (cs : List Call) → Each Given cs → Each Byte (sheetsOf cs)
 unfolding Each sheetsOf
@@ -279,12 +279,12 @@ sheets-fit (c ∷ cs) g = each-append Byte (sheetOf c) (sheetsOf cs) (sheet-fit 
 
 room-by-fits : (c : Call) → Given c → Word (roomBy c)
 unfolding roomBy
-room-by-fits (stepBy t) g = omega arith
-room-by-fits settle g = omega arith
-room-by-fits (setEnds es) g = omega arith
-room-by-fits askGreatest g = omega arith
-room-by-fits (writeInto room) g = g
-room-by-fits (reopen sheet) g = omega arith
+room-by-fits (stepCall t) g = omega arith
+room-by-fits transportCall g = omega arith
+room-by-fits (boundariesCall es) g = omega arith
+room-by-fits greatestCall g = omega arith
+room-by-fits (writeCall room) g = g
+room-by-fits (openCall sheet) g = omega arith
 
 room-fits : (cs : List Call) → Each Given cs → Word (roomOf cs)
 unfolding Each roomOf

@@ -5,7 +5,7 @@ use Prim.Native.Nat.{ℕ, _+_, _*_, _<_}
 use lib.IntN.{ℤ, pos, negsuc}
 use lib.ListN.{length}
 use Rattle.reach.specs.declared.boundary.Boundary.{Boundary}
-use Rattle.tally.specs.Call.{Call, stepBy, settle, setEnds, askGreatest, writeInto, reopen}
+use Rattle.tally.specs.Call.{Call, stepCall, transportCall, boundariesCall, greatestCall, writeCall, openCall}
 use Rattle.tally.specs.Holds.{Each}
 use Rattle.script.specs.Script.{callWords, script}
 
@@ -33,22 +33,22 @@ pub record Stored (e : Boundary) : Type 0 where
 
 -- free arguments as the calls can be given them
 abbrev pub Given : Call → Type 0
-Given (stepBy t) = Word t
-Given settle = Unit {0}
-Given (setEnds es) = (length es ≡ 2) × Each Stored es
-Given askGreatest = Unit {0}
-Given (writeInto room) = Word room
-Given (reopen sheet) = Each Byte sheet
+Given (stepCall t) = Word t
+Given transportCall = Unit {0}
+Given (boundariesCall es) = (length es ≡ 2) × Each Stored es
+Given greatestCall = Unit {0}
+Given (writeCall room) = Word room
+Given (openCall sheet) = Each Byte sheet
 
 -- the bytes of all sheets of a list
 unfoldable pub sheetsSize : List Call → ℕ
 sheetsSize [] = 0
-sheetsSize (stepBy t ∷ cs) = sheetsSize cs
-sheetsSize (settle ∷ cs) = sheetsSize cs
-sheetsSize (setEnds es ∷ cs) = sheetsSize cs
-sheetsSize (askGreatest ∷ cs) = sheetsSize cs
-sheetsSize (writeInto room ∷ cs) = sheetsSize cs
-sheetsSize (reopen sheet ∷ cs) = length sheet + sheetsSize cs
+sheetsSize (stepCall t ∷ cs) = sheetsSize cs
+sheetsSize (transportCall ∷ cs) = sheetsSize cs
+sheetsSize (boundariesCall es ∷ cs) = sheetsSize cs
+sheetsSize (greatestCall ∷ cs) = sheetsSize cs
+sheetsSize (writeCall room ∷ cs) = sheetsSize cs
+sheetsSize (openCall sheet ∷ cs) = length sheet + sheetsSize cs
 
 -- memory that holds the list: its words and bytes, no more of them than the list needs
 pub record Encoded (cs : List Call) : Type 0 where

@@ -6,7 +6,7 @@ use lib.Dec.{eqb}
 use lib.ListN.{length, getD, take, drop}
 use Rattle.reach.specs.declared.boundary.Boundary.{Boundary}
 use Rattle.sheet.specs.Bytes.{twos}
-use Rattle.tally.specs.Call.{Call, stepBy, settle, setEnds, askGreatest, writeInto, reopen}
+use Rattle.tally.specs.Call.{Call, stepCall, transportCall, boundariesCall, greatestCall, writeCall, openCall}
 
 abbrev pub callWords : ℕ
 callWords = 13
@@ -28,12 +28,12 @@ part s a b = take (min b (length s) - min a (length s)) (drop (min a (length s))
 -- by the first word of a call: 0 a step, 1 a settling, 2 an end setting, 3 a greatest-step call, 4 a write, any other an opening
 abbrev pub callOf : (word a b : ℕ) → List Boundary → (sheets : List ℕ) (room : ℕ) → Call
 callOf w a b es sheets room =
-    cond (eqb w 0) (stepBy a)
-    (cond (eqb w 1) settle
-    (cond (eqb w 2) (setEnds es)
-    (cond (eqb w 3) askGreatest
-    (cond (eqb w 4) (writeInto (min a room))
-    (reopen (part sheets a b))))))
+    cond (eqb w 0) (stepCall a)
+    (cond (eqb w 1) transportCall
+    (cond (eqb w 2) (boundariesCall es)
+    (cond (eqb w 3) greatestCall
+    (cond (eqb w 4) (writeCall (min a room))
+    (openCall (part sheets a b))))))
 
 -- the call in the words from `at` on; t, the room of a write, or the place of a sheet is in the two words behind the first, the pair of
 -- ends in the ten after them; there are `room` bytes of output

@@ -33,7 +33,7 @@ fn boundary_from(words: &[u64], at: usize) -> Boundary
 }
 
 // The pair of ends in the words of the call at `at`
-pub fn ends_from(words: &[u64], at: usize) -> [Boundary; 2]
+pub fn boundaries_from(words: &[u64], at: usize) -> [Boundary; 2]
     requires { ⌜ at + 13 ≤ length (now words) ⌝ }
     ensures { λ r. ⌜ r ≡ (boundaryFrom (now (words .entry)) (at + 3) ∷ boundaryFrom (now (words .entry)) (at + 8) ∷ []) ⌝ }
 {

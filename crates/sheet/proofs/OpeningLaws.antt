@@ -25,7 +25,7 @@ use Rattle.sheet.specs.Header.{headerSize, sheetSize, countOf, bedsAt, d
 use Rattle.sheet.specs.Ranges.{LayoutOf, Within, cellAt}
 use Rattle.sheet.specs.Opening.{emptyLedger, sheetRecord, lent, lentFit, openGrounds, opening, unopenedBy, OpenCameTo}
 use Rattle.sheet.specs.declared.header.Layout.{Layout}
-use Rattle.sheet.specs.declared.opening.Opened.{Opened}
+use Rattle.sheet.specs.declared.opening.OpenAnswer.{OpenAnswer}
 
 -- ---- the values of a cell
 
@@ -150,14 +150,14 @@ module _ (s : List ℕ) (l : Reach) where
   accepted e = ap (λ (k : Check). outcome k l (sheetRecord s)) e
 
   -- a refused opening leaves the lent columns as they came
-  pub stayed : (n : ℕ) {r : Opened} → l ≡ lent (l .bed) (l .depth) (l .discharge) (l .mass) (l .base) (l .carried) → check ≡ Refused n → r ≡ unopenedBy n
+  pub stayed : (n : ℕ) {r : OpenAnswer} → l ≡ lent (l .bed) (l .depth) (l .discharge) (l .mass) (l .base) (l .carried) → check ≡ Refused n → r ≡ unopenedBy n
       → OpenCameTo (opening s l) r (l .bed) (l .depth) (l .discharge) (l .mass) (l .base) (l .carried)
   stayed n {r} k e f =
       let o = stopped n e in
       rw (o, f) (record {
         refusal-is = refl;
         length-is = ap (λ (x : Reach). x .cellLength) (sym k);
-        ends-are = ap (λ (x : Reach). x .ends) (sym k);
+        boundaries-are = ap (λ (x : Reach). x .boundaries) (sym k);
         ledger-is = ap (λ (x : Reach). x .ledger) (sym k);
         bed-is = refl;
         depth-is = refl;
@@ -187,7 +187,7 @@ module _ (s : List ℕ) (z h q m b c : ℕ) (e : firstRefusal (openGrounds s z h
   opened-sound =
       let n = countOf s in
       let x = all-of _ (ground-at 4) in
-      let ends = all-of _ (ground-at 5) in
+      let boundaries = all-of _ (ground-at 5) in
       let beds = length-tabulate n (λ i. twos 4 (numberAt 4 s (bedsAt s + 4 * i))) in
       record {
         some = rw beds (size-some s (ground-at 1));
@@ -199,8 +199,8 @@ module _ (s : List ℕ) (z h q m b c : ℕ) (e : firstRefusal (openGrounds s z h
         interfaces = length-replicate (n + 1) (pos 0) ∙ ap (λ (k : ℕ). k + 1) (sym beds);
         lengthLeast = leb-true _ _ (x 0);
         lengthMost = leb-true _ _ (x 1);
-        left = boundary-sound _ (ends 0);
-        right = boundary-sound _ (ends 1);
+        left = boundary-sound _ (boundaries 0);
+        right = boundary-sound _ (boundaries 1);
         boundaries = ground-at 5;
         cell = cells-sound _ _ _ _ _ (ground-at 6);
         water = λ i j. still (getD (tabulate n (λ k. numberAt 4 s (depthsAt s + 4 * k))) i 0) i n (omega (arith, beds));
@@ -216,7 +216,7 @@ opened-stands s l gs e g =
     rw (accepted s l p) (stands (sheetRecord s) gs (opened-sound s _ _ _ _ _ _ p) g)
 
 -- the record that an opening left in the columns, with X, ends and ledger of its answer
-pub left-by-opening : {o : Outcome} {r : Opened} {z : List ℤ} {h : List ℕ} {q : List ℤ} {m b : List ℕ} {c : List ℤ} → OpenCameTo o r z h q m b c
-    → reachOf z h q m b c (r .«cell_length») (r .ends) (r .ledger) ≡ o .reach
+pub left-by-opening : {o : Outcome} {r : OpenAnswer} {z : List ℤ} {h : List ℕ} {q : List ℤ} {m b : List ℕ} {c : List ℤ} → OpenCameTo o r z h q m b c
+    → reachOf z h q m b c (r .«cell_length») (r .boundaries) (r .ledger) ≡ o .reach
 left-by-opening {o} k =
-    rw (k .bed-is, k .depth-is, k .discharge-is, k .mass-is, k .base-is, k .carried-is, k .length-is, k .ends-are, k .ledger-is) refl
+    rw (k .bed-is, k .depth-is, k .discharge-is, k .mass-is, k .base-is, k .carried-is, k .length-is, k .boundaries-are, k .ledger-is) refl

@@ -13,12 +13,12 @@ use prog.Memory.{Memory}
 use prog.Routine.{Routine}
 use prog.Wp.{Heap}
 use Rattle.sheet.specs.Opening.{lent, opening, OpenCameTo}
-use Rattle.sheet.specs.declared.opening.Opened.{Opened}
+use Rattle.sheet.specs.declared.opening.OpenAnswer.{OpenAnswer}
 use Rattle.sheet.proofs.opening.open_sheet.{ensures-1 as opening-ensures}
 
 pub opening-says : {M : Type 1} (𝓤 : URA M) (H : Heap 𝓤) (κs : Lfts 7) (A : Atoms 𝓤) (mem : Memory → SProp 𝓤) (run : Routine → Fun 𝓤)
     (s : RefT (List ℕ)) (z : RefT (List ℤ)) (h : RefT (List ℕ)) (q : RefT (List ℤ)) (m : RefT (List ℕ)) (b : RefT (List ℕ)) (c : RefT (List ℤ))
-    (z' : List ℤ) (h' : List ℕ) (q' : List ℤ) (m' : List ℕ) (b' : List ℕ) (c' : List ℤ) (r : Opened) →
+    (z' : List ℤ) (h' : List ℕ) (q' : List ℤ) (m' : List ℕ) (b' : List ℕ) (c' : List ℤ) (r : OpenAnswer) →
     opening-ensures 𝓤 H κs A mem run s z h q m b c
     (record { entry = s; exit = s })
     (record { entry = z; exit = at-last z z' })

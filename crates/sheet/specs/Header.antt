@@ -53,8 +53,8 @@ boundaryAt s at = record {
 }
 
 -- left, then right
-unfoldable pub endsOf : List ℕ → List Boundary
-endsOf s = boundaryAt s 32 ∷ boundaryAt s 56 ∷ []
+unfoldable pub boundariesOf : List ℕ → List Boundary
+boundariesOf s = boundaryAt s 32 ∷ boundaryAt s 56 ∷ []
 
 -- ---- 1: the sheet is under 80 bytes or its edition is not 1
 unfoldable pub editionFits : List ℕ → Bool

@@ -14,8 +14,8 @@ use Rattle.reach.specs.declared.boundary.Boundary.{Boundary}
 use Rattle.reach.specs.declared.ledger.Totals.{Totals}
 use Rattle.reach.specs.declared.ledger.Ledger.{Ledger}
 use Rattle.sheet.specs.Bytes.{twos, columnAt}
-use Rattle.sheet.specs.Header.{countOf, cellLengthOf, bedsAt, depthsAt, dischargesAt, massesAt, endsOf, editionFits, sizeFits, spansOf, columnsClear}
-use Rattle.sheet.specs.declared.opening.Opened.{Opened}
+use Rattle.sheet.specs.Header.{countOf, cellLengthOf, bedsAt, depthsAt, dischargesAt, massesAt, boundariesOf, editionFits, sizeFits, spansOf, columnsClear}
+use Rattle.sheet.specs.declared.opening.OpenAnswer.{OpenAnswer}
 
 -- an empty book
 abbrev pub emptyTotals : Totals
@@ -34,7 +34,7 @@ sheetRecord s = record {
   base = columnAt (λ v. v) 4 s (depthsAt s) (countOf s);
   carried = replicate (countOf s + 1) (pos 0);
   cellLength = cellLengthOf s;
-  ends = endsOf s;
+  boundaries = boundariesOf s;
   ledger = emptyLedger;
 }
 
@@ -55,7 +55,7 @@ openGrounds s z h q m b c =
     ∷ ground 3 (columnsClear (length s) (spansOf s))
     ∷ ground 4 (lentFit (countOf s) z h q m b c)
     ∷ ground 5 (cellLengthFits (cellLengthOf s))
-    ∷ ground 6 (boundariesFit (endsOf s))
+    ∷ ground 6 (boundariesFit (boundariesOf s))
     ∷ ground 7 (cellsFit (r .bed) (r .depth) (r .discharge) (r .mass) (r .base))
     ∷ []
 
@@ -67,14 +67,14 @@ opening s l =
     l (sheetRecord s)
 
 -- the answer of a refused opening: its number, and 0 in the other fields
-abbrev pub unopenedBy : ℕ → Opened
-unopenedBy n = record { refusal = n; «cell_length» = 0; ends = noBoundary ∷ noBoundary ∷ []; ledger = emptyLedger }
+abbrev pub unopenedBy : ℕ → OpenAnswer
+unopenedBy n = record { refusal = n; «cell_length» = 0; boundaries = noBoundary ∷ noBoundary ∷ []; ledger = emptyLedger }
 
 -- an opening came out as o says: every field of its answer, and every column
-pub record OpenCameTo (o : Outcome) (r : Opened) (bed : List ℤ) (depth : List ℕ) (discharge : List ℤ) (mass base : List ℕ) (carried : List ℤ) : Type 0 where
+pub record OpenCameTo (o : Outcome) (r : OpenAnswer) (bed : List ℤ) (depth : List ℕ) (discharge : List ℤ) (mass base : List ℕ) (carried : List ℤ) : Type 0 where
   pub refusal-is : r .refusal ≡ o .refusal
   pub length-is : r .«cell_length» ≡ o .reach .cellLength
-  pub ends-are : r .ends ≡ o .reach .ends
+  pub boundaries-are : r .boundaries ≡ o .reach .boundaries
   pub ledger-is : r .ledger ≡ o .reach .ledger
   pub bed-is : bed ≡ o .reach .bed
   pub depth-is : depth ≡ o .reach .depth

@@ -5,7 +5,7 @@ ghost use Prim.Native.Nat.{_+_, _*_, _^_, _≤_, _<_};
 ghost use lib.ListN.{length};
 ghost use Rattle.reach.specs.Limits.{cellsMost};
 ghost use Rattle.reach.specs.Grounds.{passOr};
-ghost use Rattle.sheet.specs.Header.{headerSize, countOf, cellLengthOf, boundaryAt, endsOf, editionFits, sizeFits, span, inside as insideOf, apart as apartOf, columnsClear, spansOf};
+ghost use Rattle.sheet.specs.Header.{headerSize, countOf, cellLengthOf, boundaryAt, boundariesOf, editionFits, sizeFits, span, inside as insideOf, apart as apartOf, columnsClear, spansOf};
 ghost use Rattle.sheet.specs.Ranges.{Offset, LayoutOf};
 use super::bytes::read_number;
 use super::bytes::read_signed;
@@ -70,7 +70,7 @@ fn read_boundary(s: &[u8], at: usize) -> Boundary
 
 pub fn read_boundaries(s: &[u8]) -> [Boundary; 2]
     requires { ⌜ headerSize ≤ length (now s) ⌝ }
-    ensures { λ r. ⌜ r ≡ endsOf (now (s .entry)) ⌝ }
+    ensures { λ r. ⌜ r ≡ boundariesOf (now (s .entry)) ⌝ }
 {
     [read_boundary(s, 32), read_boundary(s, 56)]
 }

@@ -36,34 +36,42 @@ use reach::refusal::Check;
 // What an opening hands back: 0 or the number of its refusal, X in mm, both boundaries, and an empty ledger. Of a refused opening all but the
 // number is 0.
 #[repr(C)]
-pub struct Opened {
+pub struct OpenAnswer {
     pub refusal: u32,
     pub cell_length: u64,
-    pub ends: [Boundary; 2],
+    pub boundaries: [Boundary; 2],
     pub ledger: Ledger,
 }
 
 // Ground 4, of the lengths of the lent columns
-fn check_lent(n: usize, z: usize, h: usize, q: usize, m: usize, b: usize, c: usize) -> Check
+fn check_lent(
+    n: usize,
+    bed: usize,
+    depth: usize,
+    discharge: usize,
+    mass: usize,
+    base: usize,
+    carried: usize,
+) -> Check
     requires { ⌜ n ≤ 1_000_000 ⌝ }
-    ensures { λ r. ⌜ r ≡ passOr 4 (lentFit n z h q m b c) ⌝ }
+    ensures { λ r. ⌜ r ≡ passOr 4 (lentFit n bed depth discharge mass base carried) ⌝ }
 {
-    if z != n {
+    if bed != n {
         return Check::Refused(4);
     }
-    if h != n {
+    if depth != n {
         return Check::Refused(4);
     }
-    if q != n {
+    if discharge != n {
         return Check::Refused(4);
     }
-    if m != n {
+    if mass != n {
         return Check::Refused(4);
     }
-    if b != n {
+    if base != n {
         return Check::Refused(4);
     }
-    if c != n + 1 {
+    if carried != n + 1 {
         return Check::Refused(4);
     }
     Check::Pass
@@ -100,8 +108,16 @@ fn check_values(s: &[u8], l: Layout, n: usize) -> Check
 }
 
 // Grounds 1 to 7, of a sheet and the lengths of the lent columns
-fn check_opening(s: &[u8], z: usize, h: usize, q: usize, m: usize, b: usize, c: usize) -> Check
-    ensures { λ r. ⌜ r ≡ firstRefusal (openGrounds (now (s .entry)) z h q m b c) ⌝ }
+fn check_opening(
+    s: &[u8],
+    bed: usize,
+    depth: usize,
+    discharge: usize,
+    mass: usize,
+    base: usize,
+    carried: usize,
+) -> Check
+    ensures { λ r. ⌜ r ≡ firstRefusal (openGrounds (now (s .entry)) bed depth discharge mass base carried) ⌝ }
 {
     let Check::Pass = check_edition(s) else {
         return Check::Refused(1);
@@ -113,7 +129,7 @@ fn check_opening(s: &[u8], z: usize, h: usize, q: usize, m: usize, b: usize, c: 
         return Check::Refused(3);
     };
     let n = count_of(s);
-    let Check::Pass = check_lent(n, z, h, q, m, b, c) else {
+    let Check::Pass = check_lent(n, bed, depth, discharge, mass, base, carried) else {
         return Check::Refused(4);
     };
     let Check::Pass = check_cell_length(cell_length_of(s)) else {
@@ -129,28 +145,28 @@ fn check_opening(s: &[u8], z: usize, h: usize, q: usize, m: usize, b: usize, c: 
 fn fill(
     s: &[u8],
     l: Layout,
-    z: &mut [i64],
-    h: &mut [u64],
-    q: &mut [i64],
-    m: &mut [u64],
-    b: &mut [u64],
-    c: &mut [i64],
+    bed: &mut [i64],
+    depth: &mut [u64],
+    discharge: &mut [i64],
+    mass: &mut [u64],
+    base: &mut [u64],
+    carried: &mut [i64],
 )
-    requires { ⌜ Within (now s) l (length (now z)) ⌝ }
-    requires { ⌜ (length (now h) ≡ length (now z)) × ((length (now q) ≡ length (now z)) × ((length (now m) ≡ length (now z)) × (length (now b) ≡ length (now z)))) ⌝ }
-    ensures { λ _. ⌜ now (z .exit) ≡ columnAt (twos 4) 4 (now (s .entry)) (l .beds) (length (now (z .entry))) ⌝ }
-    ensures { λ _. ⌜ now (h .exit) ≡ columnAt (λ v. v) 4 (now (s .entry)) (l .depths) (length (now (z .entry))) ⌝ }
-    ensures { λ _. ⌜ now (q .exit) ≡ columnAt (twos 8) 8 (now (s .entry)) (l .discharges) (length (now (z .entry))) ⌝ }
-    ensures { λ _. ⌜ now (m .exit) ≡ columnAt (λ v. v) 8 (now (s .entry)) (l .masses) (length (now (z .entry))) ⌝ }
-    ensures { λ _. ⌜ now (b .exit) ≡ columnAt (λ v. v) 4 (now (s .entry)) (l .depths) (length (now (z .entry))) ⌝ }
-    ensures { λ _. ⌜ now (c .exit) ≡ replicate (length (now (c .entry))) (pos 0) ⌝ }
+    requires { ⌜ Within (now s) l (length (now bed)) ⌝ }
+    requires { ⌜ (length (now depth) ≡ length (now bed)) × ((length (now discharge) ≡ length (now bed)) × ((length (now mass) ≡ length (now bed)) × (length (now base) ≡ length (now bed)))) ⌝ }
+    ensures { λ _. ⌜ now (bed .exit) ≡ columnAt (twos 4) 4 (now (s .entry)) (l .beds) (length (now (bed .entry))) ⌝ }
+    ensures { λ _. ⌜ now (depth .exit) ≡ columnAt (λ v. v) 4 (now (s .entry)) (l .depths) (length (now (bed .entry))) ⌝ }
+    ensures { λ _. ⌜ now (discharge .exit) ≡ columnAt (twos 8) 8 (now (s .entry)) (l .discharges) (length (now (bed .entry))) ⌝ }
+    ensures { λ _. ⌜ now (mass .exit) ≡ columnAt (λ v. v) 8 (now (s .entry)) (l .masses) (length (now (bed .entry))) ⌝ }
+    ensures { λ _. ⌜ now (base .exit) ≡ columnAt (λ v. v) 4 (now (s .entry)) (l .depths) (length (now (bed .entry))) ⌝ }
+    ensures { λ _. ⌜ now (carried .exit) ≡ replicate (length (now (carried .entry))) (pos 0) ⌝ }
 {
-    read_signed_column(s, l.beds, 4, HALF_4, z);
-    read_column(s, l.depths, 4, h);
-    read_signed_column(s, l.discharges, 8, HALF_8, q);
-    read_column(s, l.masses, 8, m);
-    copy_column(b, h);
-    clear_column(c);
+    read_signed_column(s, l.beds, 4, HALF_4, bed);
+    read_column(s, l.depths, 4, depth);
+    read_signed_column(s, l.discharges, 8, HALF_8, discharge);
+    read_column(s, l.masses, 8, mass);
+    copy_column(base, depth);
+    clear_column(carried);
 }
 
 fn no_boundary() -> Boundary
@@ -180,24 +196,24 @@ fn empty_ledger() -> Ledger
     }
 }
 
-fn unopened(k: Check) -> Opened
+fn unopened(k: Check) -> OpenAnswer
     ensures { λ r. ⌜ r ≡ unopenedBy (numberOf k) ⌝ }
 {
     let none = no_boundary();
-    let ends = [none, none];
+    let boundaries = [none, none];
     let ledger = empty_ledger();
     let Check::Refused(n) = k else {
-        return Opened {
+        return OpenAnswer {
             refusal: 0,
             cell_length: 0,
-            ends,
+            boundaries,
             ledger,
         };
     };
-    Opened {
+    OpenAnswer {
         refusal: n,
         cell_length: 0,
-        ends,
+        boundaries,
         ledger,
     }
 }
@@ -205,24 +221,32 @@ fn unopened(k: Check) -> Opened
 // Opens a sheet into lent columns.
 pub fn open_sheet(
     s: &[u8],
-    z: &mut [i64],
-    h: &mut [u64],
-    q: &mut [i64],
-    m: &mut [u64],
-    b: &mut [u64],
-    c: &mut [i64],
-) -> Opened
-    ensures { λ r. ⌜ OpenCameTo (opening (now (s .entry)) (lent (now (z .entry)) (now (h .entry)) (now (q .entry)) (now (m .entry)) (now (b .entry)) (now (c .entry)))) r (now (z .exit)) (now (h .exit)) (now (q .exit)) (now (m .exit)) (now (b .exit)) (now (c .exit)) ⌝ }
+    bed: &mut [i64],
+    depth: &mut [u64],
+    discharge: &mut [i64],
+    mass: &mut [u64],
+    base: &mut [u64],
+    carried: &mut [i64],
+) -> OpenAnswer
+    ensures { λ r. ⌜ OpenCameTo (opening (now (s .entry)) (lent (now (bed .entry)) (now (depth .entry)) (now (discharge .entry)) (now (mass .entry)) (now (base .entry)) (now (carried .entry)))) r (now (bed .exit)) (now (depth .exit)) (now (discharge .exit)) (now (mass .exit)) (now (base .exit)) (now (carried .exit)) ⌝ }
 {
-    let checked = check_opening(s, z.len(), h.len(), q.len(), m.len(), b.len(), c.len());
+    let checked = check_opening(
+        s,
+        bed.len(),
+        depth.len(),
+        discharge.len(),
+        mass.len(),
+        base.len(),
+        carried.len(),
+    );
     let Check::Pass = checked else {
         return unopened(checked);
     };
-    fill(s, layout_of(s), z, h, q, m, b, c);
-    Opened {
+    fill(s, layout_of(s), bed, depth, discharge, mass, base, carried);
+    OpenAnswer {
         refusal: 0,
         cell_length: cell_length_of(s),
-        ends: read_boundaries(s),
+        boundaries: read_boundaries(s),
         ledger: empty_ledger(),
     }
 }

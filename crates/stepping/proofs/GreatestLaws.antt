@@ -8,14 +8,14 @@ use lib.Dec.{eqb, ltb}
 use lib.IntN.{ℤ}
 use lib.ListN.{length}
 use Rattle.cfl.specs.Cfl.{signalSpeed, speedAt, stepFor, greatestStep, fastestPlace}
-use Rattle.cfl.specs.Ranges.{Flowing, Columns}
+use Rattle.cfl.specs.Ranges.{Flowing, FlowColumns}
 use Rattle.cfl.proofs.CflLaws.{signal-speed-most, greatest-step-is, greatest-step-most, greatest-step-some, all-dry}
 use Rattle.numbers.proofs.SearchLaws.{by-less}
 use Rattle.flux.specs.Limits.{timeStepMost}
 use Rattle.flux.proofs.WaveLaws.{wave-speed-dry}
 use Rattle.flux.proofs.VelocityLaws.{velocity-dry}
 use Rattle.reach.specs.Limits.{fed}
-use Rattle.reach.specs.Reach.{Reach, cells, depthAt, dischargeAt, leftEnd, rightEnd}
+use Rattle.reach.specs.Reach.{Reach, cells, depthAt, dischargeAt, leftBoundary, rightBoundary}
 use Rattle.reach.specs.Grounds.{firstRefusal, recordGrounds}
 use Rattle.reach.specs.declared.boundary.Boundary.{Boundary}
 use Rattle.reach.specs.declared.refusal.Check.{Check}
@@ -34,7 +34,7 @@ speed-other e p = rw (ne-eqb _ _ p) refl
 pub flowing : {e : Boundary} → BoundarySound e → Flowing (e .depth) (e .discharge)
 flowing b = record { depth = b .depth; discharge = b .discharge }
 
-pub columns-flow : (s : Reach) → Sound s → Columns (s .depth) (s .discharge)
+pub columns-flow : (s : Reach) → Sound s → FlowColumns (s .depth) (s .discharge)
 columns-flow s k = record {
   long = k .discharges ∙ sym (k .depths);
   few = omega (arith, k .few, k .depths);
@@ -43,17 +43,17 @@ columns-flow s k = record {
       record { depth = k .cell i j .depth; discharge = k .cell i j .discharge };
 }
 
-pub stopped : (s : Reach) (n : ℕ) → firstRefusal (recordGrounds s (s .ends)) ≡ Refused n → greatest s ≡ greatestBy (Refused n) s
+pub stopped : (s : Reach) (n : ℕ) → firstRefusal (recordGrounds s (s .boundaries)) ≡ Refused n → greatest s ≡ greatestBy (Refused n) s
 unfolding greatest
 stopped s n e = ap (λ (k : Check). greatestBy k s) e
 
 -- the answer from what the functions find
-pub found : (s : Reach) (left right place speed time : ℕ) → firstRefusal (recordGrounds s (s .ends)) ≡ Pass
-    → left ≡ boundarySpeed (leftEnd (s .ends)) → right ≡ boundarySpeed (rightEnd (s .ends)) → length (s .depth) ≡ cells s
+pub found : (s : Reach) (left right place speed time : ℕ) → firstRefusal (recordGrounds s (s .boundaries)) ≡ Pass
+    → left ≡ boundarySpeed (leftBoundary (s .boundaries)) → right ≡ boundarySpeed (rightBoundary (s .boundaries)) → length (s .depth) ≡ cells s
     → place ≡ fastestPlace (speedAt (s .depth) (s .discharge) left right) (length (s .depth) + 1)
     → speed ≡ speedAt (s .depth) (s .discharge) left right place
     → time ≡ stepFor (s .cellLength) speed
-    → record { refusal = 0; ends = s .ends; ledger = s .ledger; time = time; place = place } ≡ greatest s
+    → record { refusal = 0; boundaries = s .boundaries; ledger = s .ledger; time = time; place = place } ≡ greatest s
 unfolding greatest greatestTime greatestPlace placeSpeed
 found s left right place speed time e l r n p v t =
     rw (e, t, v, greatest-step-is, p, l, r, n) refl
@@ -70,13 +70,13 @@ boundary-most e b = go (eqb (e .kind) fed)
 
 speed-most : (s : Reach) → Sound s → (i : ℕ) → placeSpeed s i ≤ 16_000
 unfolding placeSpeed speedAt
-speed-most s k zero = boundary-most (leftEnd (s .ends)) (k .left)
+speed-most s k zero = boundary-most (leftBoundary (s .boundaries)) (k .left)
 speed-most s k (suc i) =
-    by-less i (length (s .depth)) (λ t. cond t (signalSpeed (depthAt s i) (dischargeAt s i)) (boundarySpeed (rightEnd (s .ends))) ≤ 16_000)
+    by-less i (length (s .depth)) (λ t. cond t (signalSpeed (depthAt s i) (dischargeAt s i)) (boundarySpeed (rightBoundary (s .boundaries))) ≤ 16_000)
     (λ l.
     let c = k .cell i (omega (arith, k .depths)) in
     signal-speed-most (depthAt s i) (dischargeAt s i) (c .depth) (c .discharge))
-    (λ l. boundary-most (rightEnd (s .ends)) (k .right))
+    (λ l. boundary-most (rightBoundary (s .boundaries)) (k .right))
 
 -- the greatest t lies in 1..1,000
 pub time-in-range : (s : Reach) → Sound s → (1 ≤ greatestTime s) × (greatestTime s ≤ timeStepMost)
@@ -88,18 +88,18 @@ signal-dry : (q : ℤ) → signalSpeed 0 q ≡ 0
 unfolding signalSpeed
 signal-dry q = rw (velocity-dry q, wave-speed-dry) refl
 
-dry-speed : (s : Reach) → ((i : ℕ) → depthAt s i ≡ 0) → (leftEnd (s .ends) .kind ≡ fed → ⊥) → (rightEnd (s .ends) .kind ≡ fed → ⊥)
+dry-speed : (s : Reach) → ((i : ℕ) → depthAt s i ≡ 0) → (leftBoundary (s .boundaries) .kind ≡ fed → ⊥) → (rightBoundary (s .boundaries) .kind ≡ fed → ⊥)
     → (i : ℕ) → placeSpeed s i ≡ 0
 unfolding placeSpeed speedAt
-dry-speed s dry left right zero = speed-other (leftEnd (s .ends)) left
+dry-speed s dry left right zero = speed-other (leftBoundary (s .boundaries)) left
 dry-speed s dry left right (suc i) = go (ltb i (length (s .depth)))
   where
-    go : (t : Bool) → cond t (signalSpeed (depthAt s i) (dischargeAt s i)) (boundarySpeed (rightEnd (s .ends))) ≡ 0
+    go : (t : Bool) → cond t (signalSpeed (depthAt s i) (dischargeAt s i)) (boundarySpeed (rightBoundary (s .boundaries))) ≡ 0
     go true = rw (dry i) (signal-dry (dischargeAt s i))
-    go false = speed-other (rightEnd (s .ends)) right
+    go false = speed-other (rightBoundary (s .boundaries)) right
 
 -- a reach that is all dry, with no fed end, answers 1,000 at place 0
-pub dry-reach : (s : Reach) → ((i : ℕ) → depthAt s i ≡ 0) → (leftEnd (s .ends) .kind ≡ fed → ⊥) → (rightEnd (s .ends) .kind ≡ fed → ⊥)
+pub dry-reach : (s : Reach) → ((i : ℕ) → depthAt s i ≡ 0) → (leftBoundary (s .boundaries) .kind ≡ fed → ⊥) → (rightBoundary (s .boundaries) .kind ≡ fed → ⊥)
     → (greatestPlace s ≡ 0) × (greatestTime s ≡ timeStepMost)
 unfolding greatestPlace greatestTime
 dry-reach s dry left right =

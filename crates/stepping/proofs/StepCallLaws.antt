@@ -21,8 +21,8 @@ use Rattle.flux.specs.Interface.{Side, mirrored}
 use Rattle.flux.specs.Ranges.{Mesh}
 use Rattle.flux.specs.Velocity.{velocity}
 use Rattle.cfl.specs.Cfl.{signalSpeed, speedAt, meetsCfl}
-use Rattle.reach.specs.Limits.{wall, openEnd, fed, carriedMost}
-use Rattle.reach.specs.Reach.{Reach, cells, depthAt, dischargeAt, baseAt, carriedAt, leftEnd, rightEnd}
+use Rattle.reach.specs.Limits.{wall, openBoundary, fed, carriedMost}
+use Rattle.reach.specs.Reach.{Reach, cells, depthAt, dischargeAt, baseAt, carriedAt, leftBoundary, rightBoundary}
 use Rattle.reach.specs.Grounds.{firstRefusal, recordGrounds, boundaryFits, boundariesFit, kindFits, ledgerFits, passOr}
 use Rattle.reach.specs.Outcome.{Outcome, outcome}
 use Rattle.reach.specs.declared.boundary.Boundary.{Boundary}
@@ -31,9 +31,9 @@ use Rattle.reach.specs.declared.refusal.Check.{Check}
 use Rattle.reach.specs.declared.refusal.Check.the-variants.{Pass, Refused}
 use Rattle.reach.proofs.GroundsLaws.{go-on, stop-at, last-one, further, no-further, numbered, refused-number}
 use Rattle.reach.proofs.Sound.{Sound}
-use Rattle.mass.specs.Transport.{columns, movedMass}
+use Rattle.mass.specs.Transport.{massColumns, movedMass}
 use Rattle.mass.specs.Ranges.{Ready}
-use Rattle.transport.specs.Calls.{columnsOf, withMass, ledgerWith, transported}
+use Rattle.transport.specs.Calls.{massColumnsOf, withMass, ledgerWith, afterTransport}
 use Rattle.transport.specs.Ranges.{Small}
 use Rattle.transport.proofs.CallsLaws.{ready, small, ledger-is, carried-zero}
 use Rattle.water.specs.Sides.{cellSide, boundarySide, leftSide, rightSide}
@@ -41,8 +41,8 @@ use Rattle.water.specs.Water.{netAt, newDepth}
 use Rattle.water.specs.Ranges.{fluxMost, flowOf, FlowFits, sideMeets, sidesMeet, Swept}
 use Rattle.water.proofs.WaterLaws.{right-side-cell, right-side-end, boundary-fed, net-small}
 use Rattle.stepping.specs.GreatestStep.{boundarySpeed, placeSpeed}
-use Rattle.stepping.specs.Step.{summed, keepsSums, settledFirst, withEndWater, stepLedger, stepped, timeFits, depthsFit, stepGrounds, step, settles, stoppedBy, StepCameTo}
-use Rattle.stepping.specs.Ranges.{Summable, sumsKept, CrossedWhen}
+use Rattle.stepping.specs.Step.{summed, keepsSums, transportedFirst, withBoundaryWater, stepLedger, afterStep, timeFits, depthsFit, stepGrounds, step, transports, stoppedBy, StepCameTo}
+use Rattle.stepping.specs.Ranges.{Summable, sumsKept, BoundaryMassWhen}
 
 -- ---- what a sound record owes the sweep
 
@@ -62,7 +62,7 @@ flow-fits s k = record {
 }
 
 -- and so has its water alone
-pub water-fits : (s : Reach) → Sound s → FlowFits (flowOf (s .bed) (s .depth) (s .discharge) (s .cellLength) (s .ends))
+pub water-fits : (s : Reach) → Sound s → FlowFits (flowOf (s .bed) (s .depth) (s .discharge) (s .cellLength) (s .boundaries))
 water-fits s k = let f = flow-fits s k in
     record { some = f .some; few = f .few; depths = f .depths; discharges = f .discharges; cell = f .cell; left = f .left; right = f .right }
 
@@ -97,7 +97,7 @@ module _ (t X : ℕ) (e : Boundary) (c : Side) where
   -- and the other way round, beside a cell that meets it
   end-meets : boundaryFits e ≡ true → sideMeets t X c ≡ true → leb (t * boundarySpeed e) (1_000 * X) ≡ true → sideMeets t X (boundarySide e c) ≡ true
   unfolding boundaryFits kindFits boundarySpeed boundarySide mirrored sideMeets signalSpeed
-  end-meets b m p = go (eqb (e .kind) wall) (eqb (e .kind) openEnd) (eqb (e .kind) fed) _ _ _ (all-of _ b 1) p
+  end-meets b m p = go (eqb (e .kind) wall) (eqb (e .kind) openBoundary) (eqb (e .kind) fed) _ _ _ (all-of _ b 1) p
     where
       go : (w o f x y z : Bool) → cond w x (cond o y (cond f z false)) ≡ true → leb (t * cond f (signalSpeed (e .depth) (e .discharge)) 0) (1_000 * X) ≡ true
           → sideMeets t X (cond w (mirrored c) (cond o c (record { bed = c .bed; depth = e .depth; velocity = velocity (e .depth) (e .discharge) }))) ≡ true
@@ -114,24 +114,24 @@ module _ (s : Reach) (k : Sound s) (t : ℕ) where
   abbrev side : ℕ → Bool
   side i = sideMeets t (s .cellLength) (rightSide s i)
 
-  left-fits : boundaryFits (leftEnd (s .ends)) ≡ true
+  left-fits : boundaryFits (leftBoundary (s .boundaries)) ≡ true
   unfolding boundariesFit
   left-fits = all-of _ (k .boundaries) 0
 
-  right-fits : boundaryFits (rightEnd (s .ends)) ≡ true
+  right-fits : boundaryFits (rightBoundary (s .boundaries)) ≡ true
   unfolding boundariesFit
   right-fits = all-of _ (k .boundaries) 1
 
   -- a place past the left boundary, by whether it is a cell
   place-of : (i : ℕ) (P : Bool → Type 0) → (i < cells s → P (sideMeets t (s .cellLength) (cellSide s i)))
-      → (cells s ≤ i → P (leb (t * boundarySpeed (rightEnd (s .ends))) (1_000 * s .cellLength))) → P (place (suc i))
+      → (cells s ≤ i → P (leb (t * boundarySpeed (rightBoundary (s .boundaries))) (1_000 * s .cellLength))) → P (place (suc i))
   unfolding placeSpeed speedAt signalSpeed sideMeets cellSide
   place-of i P f g =
-      by-less i (length (s .depth)) (λ b. P (leb (t * cond b (signalSpeed (depthAt s i) (dischargeAt s i)) (boundarySpeed (rightEnd (s .ends)))) (1_000 * s .cellLength)))
+      by-less i (length (s .depth)) (λ b. P (leb (t * cond b (signalSpeed (depthAt s i) (dischargeAt s i)) (boundarySpeed (rightBoundary (s .boundaries)))) (1_000 * s .cellLength)))
       (λ l. f (omega (arith, k .depths)))
       (λ l. g (omega (arith, k .depths)))
 
-  place-first : place 0 ≡ leb (t * boundarySpeed (leftEnd (s .ends))) (1_000 * s .cellLength)
+  place-first : place 0 ≡ leb (t * boundarySpeed (leftBoundary (s .boundaries))) (1_000 * s .cellLength)
   unfolding placeSpeed speedAt
   place-first = refl
 
@@ -146,16 +146,16 @@ module _ (s : Reach) (k : Sound s) (t : ℕ) where
       all = and-right (sideMeets t (s .cellLength) (leftSide s 0)) _ m
 
       go : (p : ℕ) → p < suc (cells s + 1) → place p ≡ true
-      go zero l = place-first ∙ end-counts t (s .cellLength) (leftEnd (s .ends)) (cellSide s 0) first
+      go zero l = place-first ∙ end-counts t (s .cellLength) (leftBoundary (s .boundaries)) (cellSide s 0) first
       go (suc i) l =
           place-of i (λ b. b ≡ true)
           (λ j. rw (right-side-cell s i j) at (all-at side (suc (cells s)) i all (omega arith)))
-          (λ j. end-counts t (s .cellLength) (rightEnd (s .ends)) (cellSide s (cells s - 1))
+          (λ j. end-counts t (s .cellLength) (rightBoundary (s .boundaries)) (cellSide s (cells s - 1))
           (rw (right-side-end s) at (all-at side (suc (cells s)) (cells s) all (omega arith))))
 
   to-sides : meetsCfl (placeSpeed s) (cells s + 1) (s .cellLength) t ≡ true → sidesMeet s t ≡ true
   unfolding sidesMeet meetsCfl leftSide
-  to-sides m = and-both _ _ (end-meets t (s .cellLength) (leftEnd (s .ends)) (cellSide s 0) left-fits (cell 0 (k .some)) (sym place-first ∙ at 0 (omega arith))) (all-below side (suc (cells s)) go)
+  to-sides m = and-both _ _ (end-meets t (s .cellLength) (leftBoundary (s .boundaries)) (cellSide s 0) left-fits (cell 0 (k .some)) (sym place-first ∙ at 0 (omega arith))) (all-below side (suc (cells s)) go)
     where
       at : (p : ℕ) → p < suc (cells s + 1) → place p ≡ true
       at p l = all-at place (suc (cells s + 1)) p m l
@@ -163,8 +163,8 @@ module _ (s : Reach) (k : Sound s) (t : ℕ) where
       cell : (i : ℕ) → i < cells s → sideMeets t (s .cellLength) (cellSide s i) ≡ true
       cell i l = place-of i (λ b. b ≡ true → sideMeets t (s .cellLength) (cellSide s i) ≡ true) (λ j q. q) (λ j q. absurd (omega arith)) (at (suc i) (omega arith))
 
-      last : leb (t * boundarySpeed (rightEnd (s .ends))) (1_000 * s .cellLength) ≡ true
-      last = place-of (cells s) (λ b. b ≡ true → leb (t * boundarySpeed (rightEnd (s .ends))) (1_000 * s .cellLength) ≡ true) (λ j q. absurd (omega arith)) (λ j q. q) (at (suc (cells s)) (omega arith))
+      last : leb (t * boundarySpeed (rightBoundary (s .boundaries))) (1_000 * s .cellLength) ≡ true
+      last = place-of (cells s) (λ b. b ≡ true → leb (t * boundarySpeed (rightBoundary (s .boundaries))) (1_000 * s .cellLength) ≡ true) (λ j q. absurd (omega arith)) (λ j q. q) (at (suc (cells s)) (omega arith))
 
       go : (i : ℕ) → i < suc (cells s) → side i ≡ true
       go i l =
@@ -173,7 +173,7 @@ module _ (s : Reach) (k : Sound s) (t : ℕ) where
           (λ j.
           let n : i ≡ cells s = omega arith in
           rw (n, right-side-end s)
-          (end-meets t (s .cellLength) (rightEnd (s .ends)) (cellSide s (cells s - 1)) right-fits (cell (cells s - 1) (let o = k .some in omega arith)) last))
+          (end-meets t (s .cellLength) (rightBoundary (s .boundaries)) (cellSide s (cells s - 1)) right-fits (cell (cells s - 1) (let o = k .some in omega arith)) last))
 
   pub met-is : sidesMeet s t ≡ meetsCfl (placeSpeed s) (cells s + 1) (s .cellLength) t
   met-is = same-truth _ _ to-places to-sides
@@ -209,57 +209,57 @@ module _ (s : Reach) (k : Sound s) (t : ℕ) where
 
     -- ---- what is written is what the record after the step holds
 
-    pub depth-written : tabulate (length (s .depth)) (λ i. getD depth i 0) ≡ stepped s t .depth
-    unfolding stepped
+    pub depth-written : tabulate (length (s .depth)) (λ i. getD depth i 0) ≡ afterStep s t .depth
+    unfolding afterStep
     depth-written = rw (k .depths) (tabulate-same (cells s) _ _ (w .depths))
 
-    pub discharge-written : tabulate (length (s .discharge)) (λ i. getD discharge i (pos 0)) ≡ stepped s t .discharge
-    unfolding stepped
+    pub discharge-written : tabulate (length (s .discharge)) (λ i. getD discharge i (pos 0)) ≡ afterStep s t .discharge
+    unfolding afterStep
     discharge-written = rw (k .discharges) (tabulate-same (cells s) _ _ (w .discharges))
 
-    interfaces-kept : length (settledFirst s t .carried) ≡ suc (cells s)
-    unfolding settledFirst transported
+    interfaces-kept : length (transportedFirst s t .carried) ≡ suc (cells s)
+    unfolding transportedFirst afterTransport
     interfaces-kept = go (keepsSums s t)
       where
-        go : (b : Bool) → length (cond b s (transported s (s .ends)) .carried) ≡ suc (cells s)
+        go : (b : Bool) → length (cond b s (afterTransport s (s .boundaries)) .carried) ≡ suc (cells s)
         go true = k .interfaces ∙ add-one (cells s)
         go false = length-replicate (length (s .carried)) (pos 0) ∙ k .interfaces ∙ add-one (cells s)
 
-    settled-small : (i : ℕ) → i ≤ cells s → natAbs (carriedAt (settledFirst s t) i) ≤ carriedMost
-    unfolding settledFirst
-    settled-small i l = go (keepsSums s t)
+    transported-small : (i : ℕ) → i ≤ cells s → natAbs (carriedAt (transportedFirst s t) i) ≤ carriedMost
+    unfolding transportedFirst
+    transported-small i l = go (keepsSums s t)
       where
-        go : (b : Bool) → natAbs (carriedAt (cond b s (transported s (s .ends))) i) ≤ carriedMost
+        go : (b : Bool) → natAbs (carriedAt (cond b s (afterTransport s (s .boundaries))) i) ≤ carriedMost
         go true = carried-small s k i l
-        go false = rw (carried-zero s k (s .ends) i (omega (arith, k .interfaces))) (omega arith)
+        go false = rw (carried-zero s k (s .boundaries) i (omega (arith, k .interfaces))) (omega arith)
 
-    module _ (c : List ℤ) (e : c ≡ settledFirst s t .carried) where
-      pub carried-written : tabulate (length c) (λ i. getD c i (pos 0) +ℤ getD net i (pos 0)) ≡ stepped s t .carried
-      unfolding stepped
-      carried-written = rw (e, interfaces-kept) (tabulate-same (suc (cells s)) _ _ (λ i l. ap (λ (n : ℤ). carriedAt (settledFirst s t) i +ℤ n) (w .nets i (omega arith))))
+    module _ (c : List ℤ) (e : c ≡ transportedFirst s t .carried) where
+      pub carried-written : tabulate (length c) (λ i. getD c i (pos 0) +ℤ getD net i (pos 0)) ≡ afterStep s t .carried
+      unfolding afterStep
+      carried-written = rw (e, interfaces-kept) (tabulate-same (suc (cells s)) _ _ (λ i l. ap (λ (n : ℤ). carriedAt (transportedFirst s t) i +ℤ n) (w .nets i (omega arith))))
 
       pub addable : Mesh t (s .cellLength) → (i : ℕ) → i < length c → (natAbs (getD c i (pos 0)) ≤ 1_000_000_000) × (natAbs (getD net i (pos 0)) ≤ 1_000_000_000)
       addable g i l =
           let j : i ≤ cells s = omega (arith, ap length e, interfaces-kept) in
-          let a : natAbs (getD c i (pos 0)) ≤ carriedMost = rw e (settled-small i j) in
+          let a : natAbs (getD c i (pos 0)) ≤ carriedMost = rw e (transported-small i j) in
           let b = net-at g i j in
           (omega (arith, a), omega (arith, b))
 
   -- ---- the settling inside the step
 
   module _ (v : Bool) (e : v ≡ not (keepsSums s t)) where
-    module _ (a b c d : ℕ) (x : CrossedWhen v (columnsOf s) a b c d) where
+    module _ (a b c d : ℕ) (x : BoundaryMassWhen v (massColumnsOf s) a b c d) where
       pub small-when : Small a b c d
       small-when = go v refl
         where
           go : (u : Bool) → v ≡ u → Small a b c d
-          go true p = small s k a b c d (x .settled p)
+          go true p = small s k a b c d (x .transported p)
           go false p =
               let z = x .kept p in
               record { left-in = omega (arith, z .0); left-out = omega (arith, z .1); right-in = omega (arith, z .2); right-out = omega (arith, z .3) }
 
-      pub ready-when : v ≡ true → Ready (columns (s .mass) (s .base) (s .carried) a c)
-      ready-when p = rw (x .settled p .left-in, x .settled p .right-in) (ready s k)
+      pub ready-when : v ≡ true → Ready (massColumns (s .mass) (s .base) (s .carried) a c)
+      ready-when p = rw (x .transported p .left-in, x .transported p .right-in) (ready s k)
 
       none : (l : Ledger) → ledgerWith l 0 0 0 0 ≡ l
       unfolding ledgerWith withMass
@@ -267,95 +267,95 @@ module _ (s : Reach) (k : Sound s) (t : ℕ) where
           let plus : (n : ℕ) → n + 0 ≡ n = λ n. omega arith in
           rw (plus (l .left .«mass_in»), plus (l .left .«mass_out»), plus (l .right .«mass_in»), plus (l .right .«mass_out»)) refl
 
-      ledger-when : ledgerWith (s .ledger) a b c d ≡ settledFirst s t .ledger
-      unfolding settledFirst transported
+      ledger-when : ledgerWith (s .ledger) a b c d ≡ transportedFirst s t .ledger
+      unfolding transportedFirst afterTransport
       ledger-when = go (keepsSums s t) refl
         where
-          go : (u : Bool) → keepsSums s t ≡ u → ledgerWith (s .ledger) a b c d ≡ cond u s (transported s (s .ends)) .ledger
+          go : (u : Bool) → keepsSums s t ≡ u → ledgerWith (s .ledger) a b c d ≡ cond u s (afterTransport s (s .boundaries)) .ledger
           go true p =
               let z = x .kept (e ∙ ap not p) in
               rw (z .0, z .1, z .2, z .3) (none (s .ledger))
-          go false p = ledger-is s k a b c d (x .settled (e ∙ ap not p))
+          go false p = ledger-is s k a b c d (x .transported (e ∙ ap not p))
 
-      pub ledger-after : (first last : ℤ) → first ≡ netAt s t 0 → last ≡ netAt s t (cells s) → withEndWater (ledgerWith (s .ledger) a b c d) first last ≡ stepLedger s t
+      pub ledger-after : (first last : ℤ) → first ≡ netAt s t 0 → last ≡ netAt s t (cells s) → withBoundaryWater (ledgerWith (s .ledger) a b c d) first last ≡ stepLedger s t
       unfolding stepLedger
       ledger-after first last p q = rw (p, q, ledger-when) refl
 
-      pub mass-when : cond v (movedMass (columns (s .mass) (s .base) (s .carried) a c)) (s .mass) ≡ stepped s t .mass
-      unfolding stepped settledFirst transported
+      pub mass-when : cond v (movedMass (massColumns (s .mass) (s .base) (s .carried) a c)) (s .mass) ≡ afterStep s t .mass
+      unfolding afterStep transportedFirst afterTransport
       mass-when = rw e (go (keepsSums s t) refl)
         where
-          go : (u : Bool) → keepsSums s t ≡ u → cond (not u) (movedMass (columns (s .mass) (s .base) (s .carried) a c)) (s .mass) ≡ cond u s (transported s (s .ends)) .mass
+          go : (u : Bool) → keepsSums s t ≡ u → cond (not u) (movedMass (massColumns (s .mass) (s .base) (s .carried) a c)) (s .mass) ≡ cond u s (afterTransport s (s .boundaries)) .mass
           go true p = refl
-          go false p = let y = x .settled (e ∙ ap not p) in rw (y .left-in, y .right-in) refl
+          go false p = let y = x .transported (e ∙ ap not p) in rw (y .left-in, y .right-in) refl
 
-    pub base-when : cond v (s .depth) (s .base) ≡ stepped s t .base
-    unfolding stepped settledFirst transported
+    pub base-when : cond v (s .depth) (s .base) ≡ afterStep s t .base
+    unfolding afterStep transportedFirst afterTransport
     base-when = rw e (go (keepsSums s t))
       where
-        go : (u : Bool) → cond (not u) (s .depth) (s .base) ≡ cond u s (transported s (s .ends)) .base
+        go : (u : Bool) → cond (not u) (s .depth) (s .base) ≡ cond u s (afterTransport s (s .boundaries)) .base
         go true = refl
         go false = refl
 
-    pub carried-when : cond v (replicate (length (s .carried)) (pos 0)) (s .carried) ≡ settledFirst s t .carried
-    unfolding settledFirst transported
+    pub carried-when : cond v (replicate (length (s .carried)) (pos 0)) (s .carried) ≡ transportedFirst s t .carried
+    unfolding transportedFirst afterTransport
     carried-when = rw e (go (keepsSums s t))
       where
-        go : (u : Bool) → cond (not u) (replicate (length (s .carried)) (pos 0)) (s .carried) ≡ cond u s (transported s (s .ends)) .carried
+        go : (u : Bool) → cond (not u) (replicate (length (s .carried)) (pos 0)) (s .carried) ≡ cond u s (afterTransport s (s .boundaries)) .carried
         go true = refl
         go false = refl
 
 -- ---- what each outcome is
 
 -- no ground has the number 0
-pub refused-positive : (s : Reach) (n : ℕ) → firstRefusal (recordGrounds s (s .ends)) ≡ Refused n → 0 < n
+pub refused-positive : (s : Reach) (n : ℕ) → firstRefusal (recordGrounds s (s .boundaries)) ≡ Refused n → 0 < n
 unfolding numbered
-refused-positive s n e = refused-number (recordGrounds s (s .ends)) n refl e
+refused-positive s n e = refused-number (recordGrounds s (s .boundaries)) n refl e
 
 module _ (s : Reach) (t : ℕ) where
-  pub stopped-before : (n : ℕ) → firstRefusal (recordGrounds s (s .ends)) ≡ Refused n → step s t ≡ record { refusal = n; reach = s }
+  pub stopped-before : (n : ℕ) → firstRefusal (recordGrounds s (s .boundaries)) ≡ Refused n → step s t ≡ record { refusal = n; reach = s }
   unfolding step
-  stopped-before n e = ap (λ (k : Check). outcome k s (stepped s t)) (no-further (recordGrounds s (s .ends)) _ n e)
+  stopped-before n e = ap (λ (k : Check). outcome k s (afterStep s t)) (no-further (recordGrounds s (s .boundaries)) _ n e)
 
-  module _ (e : firstRefusal (recordGrounds s (s .ends)) ≡ Pass) where
+  module _ (e : firstRefusal (recordGrounds s (s .boundaries)) ≡ Pass) where
     pub stopped-10 : timeFits t ≡ false → step s t ≡ record { refusal = 10; reach = s }
     unfolding step
-    stopped-10 f = ap (λ (k : Check). outcome k s (stepped s t)) (further (recordGrounds s (s .ends)) _ e ∙ stop-at _ _ f)
+    stopped-10 f = ap (λ (k : Check). outcome k s (afterStep s t)) (further (recordGrounds s (s .boundaries)) _ e ∙ stop-at _ _ f)
 
     module _ (time : timeFits t ≡ true) where
       pub stopped-11 : meetsCfl (placeSpeed s) (cells s + 1) (s .cellLength) t ≡ false → step s t ≡ record { refusal = 11; reach = s }
       unfolding step
-      stopped-11 f = ap (λ (k : Check). outcome k s (stepped s t)) (further (recordGrounds s (s .ends)) _ e ∙ go-on _ _ time (stop-at _ _ f))
+      stopped-11 f = ap (λ (k : Check). outcome k s (afterStep s t)) (further (recordGrounds s (s .boundaries)) _ e ∙ go-on _ _ time (stop-at _ _ f))
 
       module _ (cfl : meetsCfl (placeSpeed s) (cells s + 1) (s .cellLength) t ≡ true) where
         pub stopped-12 : depthsFit s t ≡ false → step s t ≡ record { refusal = 12; reach = s }
         unfolding step
-        stopped-12 f = ap (λ (k : Check). outcome k s (stepped s t)) (further (recordGrounds s (s .ends)) _ e ∙ go-on _ _ time (go-on _ _ cfl (stop-at _ _ f)))
+        stopped-12 f = ap (λ (k : Check). outcome k s (afterStep s t)) (further (recordGrounds s (s .boundaries)) _ e ∙ go-on _ _ time (go-on _ _ cfl (stop-at _ _ f)))
 
         module _ (deep : depthsFit s t ≡ true) where
           at-last : (b : Bool) → ledgerFits (stepLedger s t) ≡ b → firstRefusal (stepGrounds s t) ≡ passOr 13 b
           at-last b f =
-              further (recordGrounds s (s .ends)) _ e ∙ go-on _ _ time (go-on _ _ cfl (go-on _ _ deep (last-one 13 (ledgerFits (stepLedger s t)) ∙ ap (passOr 13) f)))
+              further (recordGrounds s (s .boundaries)) _ e ∙ go-on _ _ time (go-on _ _ cfl (go-on _ _ deep (last-one 13 (ledgerFits (stepLedger s t)) ∙ ap (passOr 13) f)))
 
           pub stopped-13 : ledgerFits (stepLedger s t) ≡ false → step s t ≡ record { refusal = 13; reach = s }
           unfolding step
-          stopped-13 f = ap (λ (k : Check). outcome k s (stepped s t)) (at-last false f)
+          stopped-13 f = ap (λ (k : Check). outcome k s (afterStep s t)) (at-last false f)
 
-          pub stepped-on : ledgerFits (stepLedger s t) ≡ true → step s t ≡ record { refusal = 0; reach = stepped s t }
+          pub stepped-on : ledgerFits (stepLedger s t) ≡ true → step s t ≡ record { refusal = 0; reach = afterStep s t }
           unfolding step
-          stepped-on f = ap (λ (k : Check). outcome k s (stepped s t)) (at-last true f)
+          stepped-on f = ap (λ (k : Check). outcome k s (afterStep s t)) (at-last true f)
 
   -- a refused step leaves everything as it came
   pub stayed : (n : ℕ) → 0 < n → step s t ≡ record { refusal = n; reach = s }
-      → StepCameTo s t (stoppedBy n (s .ends) (s .ledger)) (s .depth) (s .discharge) (s .mass) (s .base) (s .carried)
-  unfolding settles
+      → StepCameTo s t (stoppedBy n (s .boundaries) (s .ledger)) (s .depth) (s .discharge) (s .mass) (s .base) (s .carried)
+  unfolding transports
   stayed n p e =
       let z : eqb n 0 ≡ false = ne-eqb n 0 (λ q. absurd (omega (arith, p, q))) in
       record {
         refusal-is = ap (λ (o : Outcome). o .refusal) (sym e);
-        ends-are = ap (λ (o : Outcome). o .reach .ends) (sym e);
+        boundaries-are = ap (λ (o : Outcome). o .reach .boundaries) (sym e);
         ledger-is = ap (λ (o : Outcome). o .reach .ledger) (sym e);
-        settled-is = rw (e, z) refl;
+        transported-is = rw (e, z) refl;
         depth-is = ap (λ (o : Outcome). o .reach .depth) (sym e);
         discharge-is = ap (λ (o : Outcome). o .reach .discharge) (sym e);
         mass-is = ap (λ (o : Outcome). o .reach .mass) (sym e);
@@ -363,21 +363,21 @@ module _ (s : Reach) (t : ℕ) where
         carried-is = ap (λ (o : Outcome). o .reach .carried) (sym e);
       }
 
-  pub settles-is : step s t ≡ record { refusal = 0; reach = stepped s t } → settles s t ≡ not (keepsSums s t)
-  unfolding settles
-  settles-is e = rw e refl
+  pub transports-is : step s t ≡ record { refusal = 0; reach = afterStep s t } → transports s t ≡ not (keepsSums s t)
+  unfolding transports
+  transports-is e = rw e refl
 
   -- an accepted one leaves the record after the step
-  pub came : {l : Ledger} {v : Bool} {h : List ℕ} {q : List ℤ} {m b : List ℕ} {c : List ℤ} → step s t ≡ record { refusal = 0; reach = stepped s t }
+  pub came : {l : Ledger} {v : Bool} {h : List ℕ} {q : List ℤ} {m b : List ℕ} {c : List ℤ} → step s t ≡ record { refusal = 0; reach = afterStep s t }
       → l ≡ stepLedger s t → v ≡ not (keepsSums s t)
-      → h ≡ stepped s t .depth → q ≡ stepped s t .discharge → m ≡ stepped s t .mass → b ≡ stepped s t .base → c ≡ stepped s t .carried
-      → StepCameTo s t (record { refusal = 0; ends = s .ends; ledger = l; settled = v }) h q m b c
-  unfolding stepped
+      → h ≡ afterStep s t .depth → q ≡ afterStep s t .discharge → m ≡ afterStep s t .mass → b ≡ afterStep s t .base → c ≡ afterStep s t .carried
+      → StepCameTo s t (record { refusal = 0; boundaries = s .boundaries; ledger = l; transported = v }) h q m b c
+  unfolding afterStep
   came e l v h q m b c = record {
     refusal-is = ap (λ (o : Outcome). o .refusal) (sym e);
-    ends-are = ap (λ (o : Outcome). o .reach .ends) (sym e);
+    boundaries-are = ap (λ (o : Outcome). o .reach .boundaries) (sym e);
     ledger-is = l ∙ ap (λ (o : Outcome). o .reach .ledger) (sym e);
-    settled-is = v ∙ sym (settles-is e);
+    transported-is = v ∙ sym (transports-is e);
     depth-is = h ∙ ap (λ (o : Outcome). o .reach .depth) (sym e);
     discharge-is = q ∙ ap (λ (o : Outcome). o .reach .discharge) (sym e);
     mass-is = m ∙ ap (λ (o : Outcome). o .reach .mass) (sym e);

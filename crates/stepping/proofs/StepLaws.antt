@@ -20,10 +20,10 @@ use Rattle.flux.specs.Wave.{waveSpeed}
 use Rattle.flux.specs.Velocity.{velocity}
 use Rattle.cfl.specs.Cfl.{signalSpeed, speedAt, meetsCfl}
 use Rattle.reach.specs.Limits.{carriedMost, totalMost, wall}
-use Rattle.reach.specs.Reach.{Reach, cells, bedAt, depthAt, dischargeAt, massAt, baseAt, carriedAt, leftEnd, rightEnd}
+use Rattle.reach.specs.Reach.{Reach, cells, bedAt, depthAt, dischargeAt, massAt, baseAt, carriedAt, leftBoundary, rightBoundary}
 use Rattle.reach.specs.Grounds.{firstRefusal, recordGrounds, boundariesFit, totalsFit, ledgerFits}
 use Rattle.reach.specs.Outcome.{Outcome, outcome}
-use Rattle.reach.specs.Balance.{waterHeld, waterIn, waterOut, WaterBalanced, massHeld, massIn, massOut, MassBalanced, CellsWithin, EndsWithin}
+use Rattle.reach.specs.Balance.{waterHeld, waterIn, waterOut, WaterBalanced, massHeld, massIn, massOut, MassBalanced, CellsWithin, BoundariesWithin}
 use Rattle.reach.specs.declared.ledger.Totals.{Totals}
 use Rattle.reach.specs.declared.ledger.Ledger.{Ledger}
 use Rattle.reach.specs.declared.boundary.Boundary.{Boundary}
@@ -31,12 +31,12 @@ use Rattle.reach.specs.declared.refusal.Check.{Check}
 use Rattle.reach.specs.declared.refusal.Check.the-variants.{Pass, Refused}
 use Rattle.reach.proofs.GroundsLaws.{stood, numbered, refused-number, passed-first}
 use Rattle.reach.proofs.Sound.{Sound, sound, stands, CellSound, CarriedSound, TotalsSound, totals-sound, ledger-left, ledger-right}
-use Rattle.transport.specs.Calls.{transported, transportLedger, ledgerWith, withMass}
-use Rattle.transport.proofs.CallsLaws.{transported-sound, transported-balanced, transported-within, carried-zero, base-at}
+use Rattle.transport.specs.Calls.{afterTransport, transportLedger, ledgerWith, withMass}
+use Rattle.transport.proofs.CallsLaws.{transport-sound, transport-balanced, transport-within, carried-zero, base-at}
 use Rattle.water.specs.Water.{netAt, newDepth, newDischarge}
 use Rattle.water.proofs.WaterLaws.{rightward, leftward, net-is, outflow-covered, new-depth-is, wall-left, wall-right, nearest-within}
 use Rattle.stepping.specs.GreatestStep.{placeSpeed}
-use Rattle.stepping.specs.Step.{summed, keepsSums, settledFirst, withWater, withEndWater, stepLedger, stepped, depthsFit, stepGrounds, step}
+use Rattle.stepping.specs.Step.{summed, keepsSums, transportedFirst, withWater, withBoundaryWater, stepLedger, afterStep, depthsFit, stepGrounds, step}
 
 -- ---- carried water that N is added to, over plain values
 
@@ -66,10 +66,10 @@ totals-fit t k =
     on _ _ (le-leb _ _ (k .waterIn)) (on _ _ (le-leb _ _ (k .waterOut)) (on _ _ (le-leb _ _ (k .massIn)) (only _ ∙ le-leb _ _ (k .massOut))))
 
 -- where the ledger of the whole step fits, so does that of a settling inside it
-settling-fits : (s : Reach) (first last : ℤ) → ledgerFits (s .ledger) ≡ true → ledgerFits (withEndWater (transportLedger s) first last) ≡ true
+transporting-fits : (s : Reach) (first last : ℤ) → ledgerFits (s .ledger) ≡ true → ledgerFits (withBoundaryWater (transportLedger s) first last) ≡ true
     → ledgerFits (transportLedger s) ≡ true
-unfolding ledgerFits withEndWater withWater transportLedger ledgerWith withMass
-settling-fits s first last old new =
+unfolding ledgerFits withBoundaryWater withWater transportLedger ledgerWith withMass
+transporting-fits s first last old new =
     let l = totals-sound _ (ledger-left _ new) in
     let r = totals-sound _ (ledger-right _ new) in
     let l₀ = totals-sound _ (ledger-left (s .ledger) old) in
@@ -77,34 +77,34 @@ settling-fits s first last old new =
     on _ _ (totals-fit _ (record { waterIn = l₀ .waterIn; waterOut = l₀ .waterOut; massIn = l .massIn; massOut = l .massOut }))
     (only _ ∙ totals-fit _ (record { waterIn = r₀ .waterIn; waterOut = r₀ .waterOut; massIn = r .massIn; massOut = r .massOut }))
 
-ledger-of : (s : Reach) (first last : ℤ) → ledgerFits (withEndWater (transported s (s .ends) .ledger) first last) ≡ true
-    → ledgerFits (withEndWater (transportLedger s) first last) ≡ true
-unfolding transported
+ledger-of : (s : Reach) (first last : ℤ) → ledgerFits (withBoundaryWater (afterTransport s (s .boundaries) .ledger) first last) ≡ true
+    → ledgerFits (withBoundaryWater (transportLedger s) first last) ≡ true
+unfolding afterTransport
 ledger-of s first last f = f
 
 -- the record that N is added to has the bed, the depths and the boundaries of s
 module _ (s : Reach) (t : ℕ) where
-  settled-bed : settledFirst s t .bed ≡ s .bed
-  unfolding settledFirst transported
-  settled-bed = go (keepsSums s t)
+  transported-bed : transportedFirst s t .bed ≡ s .bed
+  unfolding transportedFirst afterTransport
+  transported-bed = go (keepsSums s t)
     where
-      go : (b : Bool) → cond b s (transported s (s .ends)) .bed ≡ s .bed
+      go : (b : Bool) → cond b s (afterTransport s (s .boundaries)) .bed ≡ s .bed
       go true = refl
       go false = refl
 
-  settled-depth : settledFirst s t .depth ≡ s .depth
-  unfolding settledFirst transported
-  settled-depth = go (keepsSums s t)
+  transported-depth : transportedFirst s t .depth ≡ s .depth
+  unfolding transportedFirst afterTransport
+  transported-depth = go (keepsSums s t)
     where
-      go : (b : Bool) → cond b s (transported s (s .ends)) .depth ≡ s .depth
+      go : (b : Bool) → cond b s (afterTransport s (s .boundaries)) .depth ≡ s .depth
       go true = refl
       go false = refl
 
-  settled-ends : settledFirst s t .ends ≡ s .ends
-  unfolding settledFirst transported
-  settled-ends = go (keepsSums s t)
+  transported-boundaries : transportedFirst s t .boundaries ≡ s .boundaries
+  unfolding transportedFirst afterTransport
+  transported-boundaries = go (keepsSums s t)
     where
-      go : (b : Bool) → cond b s (transported s (s .ends)) .ends ≡ s .ends
+      go : (b : Bool) → cond b s (afterTransport s (s .boundaries)) .boundaries ≡ s .boundaries
       go true = refl
       go false = refl
 
@@ -116,16 +116,16 @@ net-parts s t i =
     omega arith
 
 ledger-water : (s : Reach) (t : ℕ) →
-    let k = stepped s t .ledger in
+    let k = afterStep s t .ledger in
     (k .left .«water_in» ≡ s .ledger .left .«water_in» + positive (netAt s t 0))
     × (k .left .«water_out» ≡ s .ledger .left .«water_out» + positive (negℤ (netAt s t 0)))
     × (k .right .«water_in» ≡ s .ledger .right .«water_in» + positive (negℤ (netAt s t (cells s))))
     × (k .right .«water_out» ≡ s .ledger .right .«water_out» + positive (netAt s t (cells s)))
-unfolding stepped stepLedger withEndWater withWater settledFirst transported transportLedger ledgerWith withMass
+unfolding afterStep stepLedger withBoundaryWater withWater transportedFirst afterTransport transportLedger ledgerWith withMass
 ledger-water s t = go (keepsSums s t)
   where
     go : (b : Bool) →
-        let k = cond b s (transported s (s .ends)) .ledger in
+        let k = cond b s (afterTransport s (s .boundaries)) .ledger in
         (k .left .«water_in» + positive (netAt s t 0) ≡ s .ledger .left .«water_in» + positive (netAt s t 0))
         × (k .left .«water_out» + positive (negℤ (netAt s t 0)) ≡ s .ledger .left .«water_out» + positive (negℤ (netAt s t 0)))
         × (k .right .«water_in» + positive (negℤ (netAt s t (cells s))) ≡ s .ledger .right .«water_in» + positive (negℤ (netAt s t (cells s))))
@@ -134,10 +134,10 @@ ledger-water s t = go (keepsSums s t)
     go false = (refl, refl, refl, refl)
 
 -- bounds are those of the record that N is added to: the step moves water alone
-of-settled : (s : Reach) (t lo hi : ℕ) → CellsWithin lo hi (settledFirst s t) → CellsWithin lo hi (stepped s t)
-unfolding stepped
-of-settled s t lo hi w =
-    let e = ap length (settled-bed s t) in
+of-transported : (s : Reach) (t lo hi : ℕ) → CellsWithin lo hi (transportedFirst s t) → CellsWithin lo hi (afterStep s t)
+unfolding afterStep
+of-transported s t lo hi w =
+    let e = ap length (transported-bed s t) in
     record { above = λ i l. w .above i (omega arith); below = λ i l. w .below i (omega arith) }
 
 module _ (s : Reach) (k : Sound s) (t : ℕ) (cfl : meetsCfl (placeSpeed s) (cells s + 1) (s .cellLength) t ≡ true) where
@@ -183,58 +183,58 @@ module _ (s : Reach) (k : Sound s) (t : ℕ) (cfl : meetsCfl (placeSpeed s) (cel
 
     module _ (fits : ledgerFits (stepLedger s t) ≡ true) where
       -- the record that N is added to is sound
-      pub settled-sound : Sound (settledFirst s t)
-      unfolding settledFirst stepLedger
-      settled-sound = go (keepsSums s t) fits
+      pub transported-sound : Sound (transportedFirst s t)
+      unfolding transportedFirst stepLedger
+      transported-sound = go (keepsSums s t) fits
         where
-          go : (b : Bool) → ledgerFits (withEndWater (cond b s (transported s (s .ends)) .ledger) (netAt s t 0) (netAt s t (cells s))) ≡ true
-              → Sound (cond b s (transported s (s .ends)))
+          go : (b : Bool) → ledgerFits (withBoundaryWater (cond b s (afterTransport s (s .boundaries)) .ledger) (netAt s t 0) (netAt s t (cells s))) ≡ true
+              → Sound (cond b s (afterTransport s (s .boundaries)))
           go true f = k
-          go false f = transported-sound s k (s .ends) (k .boundaries) (settling-fits s (netAt s t 0) (netAt s t (cells s)) (k .ledger) (ledger-of s _ _ f))
+          go false f = transport-sound s k (s .boundaries) (k .boundaries) (transporting-fits s (netAt s t 0) (netAt s t (cells s)) (k .ledger) (ledger-of s _ _ f))
 
       -- what N makes of its carried water is covered by its base depth
       summed-covered : (i : ℕ) → i < cells s
-          → R (carriedAt (settledFirst s t) (suc i) +ℤ netAt s t (suc i)) + L (carriedAt (settledFirst s t) i +ℤ netAt s t i) ≤ baseAt (settledFirst s t) i
-      unfolding settledFirst keepsSums summed
+          → R (carriedAt (transportedFirst s t) (suc i) +ℤ netAt s t (suc i)) + L (carriedAt (transportedFirst s t) i +ℤ netAt s t i) ≤ baseAt (transportedFirst s t) i
+      unfolding transportedFirst keepsSums summed
       summed-covered i l = go (keepsSums s t) refl
         where
           test : ℕ → Bool
           test n = leb (R (carriedAt s (suc n) +ℤ netAt s t (suc n)) + L (carriedAt s n +ℤ netAt s t n)) (baseAt s n)
 
           go : (b : Bool) → keepsSums s t ≡ b
-              → R (carriedAt (cond b s (transported s (s .ends))) (suc i) +ℤ netAt s t (suc i)) + L (carriedAt (cond b s (transported s (s .ends))) i +ℤ netAt s t i)
-              ≤ baseAt (cond b s (transported s (s .ends))) i
+              → R (carriedAt (cond b s (afterTransport s (s .boundaries))) (suc i) +ℤ netAt s t (suc i)) + L (carriedAt (cond b s (afterTransport s (s .boundaries))) i +ℤ netAt s t i)
+              ≤ baseAt (cond b s (afterTransport s (s .boundaries))) i
           go true e = leb-true _ _ (all-at test (cells s) i e l)
           go false e =
-              let z = carried-zero s k (s .ends) in
-              rw (z (suc i) (omega (arith, k .interfaces)), z i (omega (arith, k .interfaces)), +ℤ-idl, +ℤ-idl, base-at s k (s .ends) i)
+              let z = carried-zero s k (s .boundaries) in
+              rw (z (suc i) (omega (arith, k .interfaces)), z i (omega (arith, k .interfaces)), +ℤ-idl, +ℤ-idl, base-at s k (s .boundaries) i)
               (net-covered i l)
 
       -- ---- an accepted step leaves a sound record
 
-      settled-cells : cells (settledFirst s t) ≡ cells s
-      settled-cells = ap length (settled-bed s t)
+      transported-cells : cells (transportedFirst s t) ≡ cells s
+      transported-cells = ap length (transported-bed s t)
 
-      depth-of : (i : ℕ) → i < cells s → depthAt (stepped s t) i ≡ positive (newDepth s t i)
-      unfolding stepped
+      depth-of : (i : ℕ) → i < cells s → depthAt (afterStep s t) i ≡ positive (newDepth s t i)
+      unfolding afterStep
       depth-of i l = getD-tabulate (cells s) (λ n. positive (newDepth s t n)) i 0 l
 
-      discharge-of : (i : ℕ) → i < cells s → dischargeAt (stepped s t) i ≡ newDischarge s t i
-      unfolding stepped
+      discharge-of : (i : ℕ) → i < cells s → dischargeAt (afterStep s t) i ≡ newDischarge s t i
+      unfolding afterStep
       discharge-of i l = getD-tabulate (cells s) (newDischarge s t) i (pos 0) l
 
-      carried-of : (i : ℕ) → i ≤ cells s → carriedAt (stepped s t) i ≡ carriedAt (settledFirst s t) i +ℤ netAt s t i
-      unfolding stepped
-      carried-of i l = getD-tabulate (suc (cells s)) (λ n. carriedAt (settledFirst s t) n +ℤ netAt s t n) i (pos 0) (omega arith)
+      carried-of : (i : ℕ) → i ≤ cells s → carriedAt (afterStep s t) i ≡ carriedAt (transportedFirst s t) i +ℤ netAt s t i
+      unfolding afterStep
+      carried-of i l = getD-tabulate (suc (cells s)) (λ n. carriedAt (transportedFirst s t) n +ℤ netAt s t n) i (pos 0) (omega arith)
 
       discharge-within : (i : ℕ) → natAbs (newDischarge s t i) ≤ 8_000 * positive (newDepth s t i)
       unfolding newDischarge
       discharge-within i = nearest-within _ _
 
-      cell-of : (i : ℕ) → i < cells s
-          → CellSound (bedAt s i) (positive (newDepth s t i)) (newDischarge s t i) (massAt (settledFirst s t) i) (baseAt (settledFirst s t) i)
-      cell-of i l =
-          let c = settled-sound .cell i (omega (arith, settled-cells)) in record {
+      cell-state : (i : ℕ) → i < cells s
+          → CellSound (bedAt s i) (positive (newDepth s t i)) (newDischarge s t i) (massAt (transportedFirst s t) i) (baseAt (transportedFirst s t) i)
+      cell-state i l =
+          let c = transported-sound .cell i (omega (arith, transported-cells)) in record {
             bed = k .cell i l .bed;
             depth = deep-at i l;
             discharge = discharge-within i;
@@ -243,42 +243,42 @@ module _ (s : Reach) (k : Sound s) (t : ℕ) (cfl : meetsCfl (placeSpeed s) (cel
           }
 
       water-of : (i : ℕ) → i < cells s
-          → CarriedSound (positive (newDepth s t i)) (baseAt (settledFirst s t) i) (carriedAt (settledFirst s t) i +ℤ netAt s t i)
-          (carriedAt (settledFirst s t) (suc i) +ℤ netAt s t (suc i))
+          → CarriedSound (positive (newDepth s t i)) (baseAt (transportedFirst s t) i) (carriedAt (transportedFirst s t) i +ℤ netAt s t i)
+          (carriedAt (transportedFirst s t) (suc i) +ℤ netAt s t (suc i))
       water-of i l =
-          let r = settledFirst s t in
-          let c = settled-sound .water i (omega (arith, settled-cells)) in
-          let d : depthAt r i ≡ depthAt s i = ap (λ (h : List ℕ). getD h i 0) (settled-depth s t) in
+          let r = transportedFirst s t in
+          let c = transported-sound .water i (omega (arith, transported-cells)) in
+          let d : depthAt r i ≡ depthAt s i = ap (λ (h : List ℕ). getD h i 0) (transported-depth s t) in
           let n : carriedAt r (i + 1) ≡ carriedAt r (suc i) = ap (carriedAt r) (add-one i) in
           carried-moved (depthAt s i) (baseAt r i) (rightward s t i) (leftward s t i) (rightward s t (suc i)) (leftward s t (suc i)) (positive (newDepth s t i))
           (carriedAt r i) (carriedAt r (suc i)) (netAt s t i) (netAt s t (suc i))
           (net-is s t i) (net-is s t (suc i)) (covered-at i l) (depth-at i l)
-          (rw (d, n) at (c .balance)) (summed-covered i l) (settled-sound .cell i (omega (arith, settled-cells)) .base) (deep-at i l)
+          (rw (d, n) at (c .balance)) (summed-covered i l) (transported-sound .cell i (omega (arith, transported-cells)) .base) (deep-at i l)
 
       shut : (c n : ℤ) → c ≡ pos 0 → n ≡ pos 0 → c +ℤ n ≡ pos 0
       shut c n p q = rw (p, q) refl
 
-      pub stepped-sound : Sound (stepped s t)
-      unfolding stepped
+      pub stepped-sound : Sound (afterStep s t)
+      unfolding afterStep
       stepped-sound =
-          let r = settled-sound in
-          let e = settled-ends s t in record {
+          let r = transported-sound in
+          let e = transported-boundaries s t in record {
             some = k .some;
             few = k .few;
             depths = length-tabulate (cells s) (λ i. positive (newDepth s t i));
             discharges = length-tabulate (cells s) (newDischarge s t);
-            masses = r .masses ∙ settled-cells;
-            bases = r .bases ∙ settled-cells;
-            interfaces = length-tabulate (suc (cells s)) (λ i. carriedAt (settledFirst s t) i +ℤ netAt s t i) ∙ sym (add-one (cells s));
+            masses = r .masses ∙ transported-cells;
+            bases = r .bases ∙ transported-cells;
+            interfaces = length-tabulate (suc (cells s)) (λ i. carriedAt (transportedFirst s t) i +ℤ netAt s t i) ∙ sym (add-one (cells s));
             lengthLeast = k .lengthLeast;
             lengthMost = k .lengthMost;
             left = k .left;
             right = k .right;
             boundaries = k .boundaries;
-            cell = λ i l. rw (depth-of i l, discharge-of i l) (cell-of i l);
+            cell = λ i l. rw (depth-of i l, discharge-of i l) (cell-state i l);
             water = λ i l. rw (depth-of i l, add-one i, carried-of i (omega arith), carried-of (suc i) l) (water-of i l);
-            shutLeft = λ w. carried-of 0 (omega arith) ∙ shut _ _ (r .shutLeft (ap (λ x. leftEnd x .kind) e ∙ w)) (wall-left s t (k .some) w);
-            shutRight = λ w. carried-of (cells s) (omega arith) ∙ shut _ _ (ap (carriedAt (settledFirst s t)) (sym settled-cells) ∙ r .shutRight (ap (λ x. rightEnd x .kind) e ∙ w)) (wall-right s t (k .some) w);
+            shutLeft = λ w. carried-of 0 (omega arith) ∙ shut _ _ (r .shutLeft (ap (λ x. leftBoundary x .kind) e ∙ w)) (wall-left s t (k .some) w);
+            shutRight = λ w. carried-of (cells s) (omega arith) ∙ shut _ _ (ap (carriedAt (transportedFirst s t)) (sym transported-cells) ∙ r .shutRight (ap (λ x. rightBoundary x .kind) e ∙ w)) (wall-right s t (k .some) w);
             ledger = fits;
           }
 
@@ -296,11 +296,11 @@ module _ (s : Reach) (k : Sound s) (t : ℕ) (cfl : meetsCfl (placeSpeed s) (cel
   unfolding waterHeld
   held-before = sum-by-index (s .depth) ∙ ap (λ (n : ℕ). sumBelow n (depthAt s)) (k .depths)
 
-  held-after : waterHeld (stepped s t) ≡ sumBelow (cells s) (λ i. positive (newDepth s t i))
-  unfolding waterHeld stepped
+  held-after : waterHeld (afterStep s t) ≡ sumBelow (cells s) (λ i. positive (newDepth s t i))
+  unfolding waterHeld afterStep
   held-after = sum-tabulate (cells s) (λ i. positive (newDepth s t i))
 
-  pub step-water-balanced : WaterBalanced s (stepped s t)
+  pub step-water-balanced : WaterBalanced s (afterStep s t)
   unfolding WaterBalanced waterIn waterOut
   step-water-balanced =
       let first = net-parts s t 0 in
@@ -310,21 +310,21 @@ module _ (s : Reach) (k : Sound s) (t : ℕ) (cfl : meetsCfl (placeSpeed s) (cel
 
 -- ---- mass: the step adds nothing to what settling first does
 
-pub step-mass-balanced : (s : Reach) → Sound s → (t : ℕ) → MassBalanced s (stepped s t)
-unfolding MassBalanced massHeld massIn massOut stepped stepLedger withEndWater withWater settledFirst
+pub step-mass-balanced : (s : Reach) → Sound s → (t : ℕ) → MassBalanced s (afterStep s t)
+unfolding MassBalanced massHeld massIn massOut afterStep stepLedger withBoundaryWater withWater transportedFirst
 step-mass-balanced s k t = go (keepsSums s t)
   where
-    go : (b : Bool) → MassBalanced s (cond b s (transported s (s .ends)))
+    go : (b : Bool) → MassBalanced s (cond b s (afterTransport s (s .boundaries)))
     go true = refl
-    go false = transported-balanced s k (s .ends)
+    go false = transport-balanced s k (s .boundaries)
 
-pub step-within : (s : Reach) → Sound s → (t lo hi : ℕ) → CellsWithin lo hi s → EndsWithin lo hi (s .ends) → CellsWithin lo hi (stepped s t)
-unfolding settledFirst
-step-within s k t lo hi w e = of-settled s t lo hi (go (keepsSums s t))
+pub step-within : (s : Reach) → Sound s → (t lo hi : ℕ) → CellsWithin lo hi s → BoundariesWithin lo hi (s .boundaries) → CellsWithin lo hi (afterStep s t)
+unfolding transportedFirst
+step-within s k t lo hi w e = of-transported s t lo hi (go (keepsSums s t))
   where
-    go : (b : Bool) → CellsWithin lo hi (cond b s (transported s (s .ends)))
+    go : (b : Bool) → CellsWithin lo hi (cond b s (afterTransport s (s .boundaries)))
     go true = w
-    go false = transported-within s k (s .ends) lo hi w e
+    go false = transport-within s k (s .boundaries) lo hi w e
 
 -- ---- the call: what each outcome is, and what an accepted one leaves
 
@@ -336,16 +336,16 @@ all-numbered s t = refl
 pub by-step : (s : Reach) (t : ℕ) (P : Outcome → Type 0)
     → ((n : ℕ) → 0 < n → P (record { refusal = n; reach = s }))
     → (Sound s → meetsCfl (placeSpeed s) (cells s + 1) (s .cellLength) t ≡ true → depthsFit s t ≡ true → ledgerFits (stepLedger s t) ≡ true
-    → P (record { refusal = 0; reach = stepped s t }))
+    → P (record { refusal = 0; reach = afterStep s t }))
     → P (step s t)
 unfolding step
 by-step s t P stays moves = go (firstRefusal (stepGrounds s t)) refl
   where
-    go : (k : Check) → firstRefusal (stepGrounds s t) ≡ k → P (outcome k s (stepped s t))
+    go : (k : Check) → firstRefusal (stepGrounds s t) ≡ k → P (outcome k s (afterStep s t))
     go (Refused n) e = stays n (refused-number (stepGrounds s t) n (all-numbered s t) e)
     go Pass e =
         let g = stood (stepGrounds s t) e in
-        moves (sound s (s .ends) (passed-first (recordGrounds s (s .ends)) _ e)) (g 8) (g 9) (g 10)
+        moves (sound s (s .boundaries) (passed-first (recordGrounds s (s .boundaries)) _ e)) (g 8) (g 9) (g 10)
 
 -- an accepted step leaves a record that stands grounds 4 to 9 again, whatever pair it is given next
 pub step-stands-again : (s : Reach) (t : ℕ) (gs : List Boundary) → step s t .refusal ≡ 0 → boundariesFit gs ≡ true
@@ -353,7 +353,7 @@ pub step-stands-again : (s : Reach) (t : ℕ) (gs : List Boundary) → step s t 
 step-stands-again s t gs e g =
     by-step s t (λ o. o .refusal ≡ 0 → firstRefusal (recordGrounds (o .reach) gs) ≡ Pass)
     (λ n p z. absurd (omega arith))
-    (λ k c d l z. stands (stepped s t) gs (stepped-sound s k t c d l) g)
+    (λ k c d l z. stands (afterStep s t) gs (stepped-sound s k t c d l) g)
     e
 
 -- the formula for h' gives no less than 0 in an accepted step
@@ -373,5 +373,5 @@ pub mass-balanced : (s : Reach) (t : ℕ) → MassBalanced s (step s t .reach)
 unfolding MassBalanced
 mass-balanced s t = by-step s t (λ o. MassBalanced s (o .reach)) (λ n p. omega arith) (λ k c d l. step-mass-balanced s k t)
 
-pub within : (s : Reach) (t lo hi : ℕ) → CellsWithin lo hi s → EndsWithin lo hi (s .ends) → CellsWithin lo hi (step s t .reach)
+pub within : (s : Reach) (t lo hi : ℕ) → CellsWithin lo hi s → BoundariesWithin lo hi (s .boundaries) → CellsWithin lo hi (step s t .reach)
 within s t lo hi w e = by-step s t (λ o. CellsWithin lo hi (o .reach)) (λ n p. w) (λ k c d l. step-within s k t lo hi w e)

@@ -5,13 +5,13 @@ use Prim.Native.Nat.{ℕ, _+_}
 use lib.Dec.{eqb}
 use Rattle.cfl.specs.Cfl.{signalSpeed, speedAt, greatestStep, fastestPlace}
 use Rattle.reach.specs.Limits.{fed}
-use Rattle.reach.specs.Reach.{Reach, cells, leftEnd, rightEnd}
+use Rattle.reach.specs.Reach.{Reach, cells, leftBoundary, rightBoundary}
 use Rattle.reach.specs.Grounds.{firstRefusal, recordGrounds}
 use Rattle.reach.specs.declared.boundary.Boundary.{Boundary}
 use Rattle.reach.specs.declared.ledger.Ledger.{Ledger}
 use Rattle.reach.specs.declared.refusal.Check.{Check}
 use Rattle.reach.specs.declared.refusal.Check.the-variants.{Pass, Refused}
-use Rattle.stepping.specs.declared.Greatest.{Greatest}
+use Rattle.stepping.specs.declared.GreatestAnswer.{GreatestAnswer}
 
 -- |u|+a of a boundary; one that is not fed counts as 0
 unfoldable pub boundarySpeed : Boundary → ℕ
@@ -19,7 +19,7 @@ boundarySpeed e = cond (eqb (e .kind) fed) (signalSpeed (e .depth) (e .discharge
 
 -- |u|+a by place: 0 the left boundary, 1..n the cells, n+1 the right boundary
 unfoldable pub placeSpeed : Reach → ℕ → ℕ
-placeSpeed s = speedAt (s .depth) (s .discharge) (boundarySpeed (leftEnd (s .ends))) (boundarySpeed (rightEnd (s .ends)))
+placeSpeed s = speedAt (s .depth) (s .discharge) (boundarySpeed (leftBoundary (s .boundaries))) (boundarySpeed (rightBoundary (s .boundaries)))
 
 -- the greatest t in 1..1,000 that meets CFL at all places
 unfoldable pub greatestTime : Reach → ℕ
@@ -30,13 +30,13 @@ unfoldable pub greatestPlace : Reach → ℕ
 greatestPlace s = fastestPlace (placeSpeed s) (cells s + 1)
 
 -- a refusal: its number, the boundaries and the ledger as they came, 0 in the other fields
-abbrev pub refusedWith : ℕ → List Boundary → Ledger → Greatest
-refusedWith n es k = record { refusal = n; ends = es; ledger = k; time = 0; place = 0 }
+abbrev pub refusedWith : ℕ → List Boundary → Ledger → GreatestAnswer
+refusedWith n es k = record { refusal = n; boundaries = es; ledger = k; time = 0; place = 0 }
 
 -- the answer, by what grounds 4 to 9 say
-abbrev pub greatestBy : Check → Reach → Greatest
-greatestBy Pass s = record { refusal = 0; ends = s .ends; ledger = s .ledger; time = greatestTime s; place = greatestPlace s }
-greatestBy (Refused n) s = refusedWith n (s .ends) (s .ledger)
+abbrev pub greatestBy : Check → Reach → GreatestAnswer
+greatestBy Pass s = record { refusal = 0; boundaries = s .boundaries; ledger = s .ledger; time = greatestTime s; place = greatestPlace s }
+greatestBy (Refused n) s = refusedWith n (s .boundaries) (s .ledger)
 
-unfoldable pub greatest : Reach → Greatest
-greatest s = greatestBy (firstRefusal (recordGrounds s (s .ends))) s
+unfoldable pub greatest : Reach → GreatestAnswer
+greatest s = greatestBy (firstRefusal (recordGrounds s (s .boundaries))) s

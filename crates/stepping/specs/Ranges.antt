@@ -8,8 +8,8 @@ use lib.IntN.{ℤ, pos, _+ℤ_, negℤ, natAbs}
 use lib.ListN.{length, getD}
 use Rattle.numbers.specs.Index.{allBelow}
 use Rattle.numbers.specs.Signed.{positive}
-use Rattle.mass.specs.Transport.{Columns}
-use Rattle.transport.specs.Ranges.{Crosses}
+use Rattle.mass.specs.Transport.{MassColumns}
+use Rattle.transport.specs.Ranges.{BoundaryMassOf}
 
 -- carried water c and amounts N of n cells' interfaces, far from the ends of their type
 pub record Summable (n : ℕ) (c net : List ℤ) : Type 0 where
@@ -27,6 +27,6 @@ sumsKept b c net =
     leb (positive (getD c (i + 1) (pos 0) +ℤ getD net (i + 1) (pos 0)) + positive (negℤ (getD c i (pos 0) +ℤ getD net i (pos 0)))) (getD b i 0))
 
 -- the mass that crosses both boundaries where the step settles, and none where it does not
-pub record CrossedWhen (settles : Bool) (s : Columns) (leftIn leftOut rightIn rightOut : ℕ) : Type 0 where
-  pub settled : settles ≡ true → Crosses s leftIn leftOut rightIn rightOut
-  pub kept : settles ≡ false → (leftIn ≡ 0) × (leftOut ≡ 0) × (rightIn ≡ 0) × (rightOut ≡ 0)
+pub record BoundaryMassWhen (transports : Bool) (s : MassColumns) (leftIn leftOut rightIn rightOut : ℕ) : Type 0 where
+  pub transported : transports ≡ true → BoundaryMassOf s leftIn leftOut rightIn rightOut
+  pub kept : transports ≡ false → (leftIn ≡ 0) × (leftOut ≡ 0) × (rightIn ≡ 0) × (rightOut ≡ 0)

@@ -16,10 +16,10 @@ use Rattle.reach.specs.Outcome.{Outcome, outcome}
 use Rattle.reach.specs.declared.boundary.Boundary.{Boundary}
 use Rattle.reach.specs.declared.ledger.Totals.{Totals}
 use Rattle.reach.specs.declared.ledger.Ledger.{Ledger}
-use Rattle.transport.specs.Calls.{transported}
+use Rattle.transport.specs.Calls.{afterTransport}
 use Rattle.water.specs.Water.{netAt, newDepth, newDischarge}
 use Rattle.stepping.specs.GreatestStep.{placeSpeed}
-use Rattle.stepping.specs.declared.step.Stepped.{Stepped}
+use Rattle.stepping.specs.declared.step.StepAnswer.{StepAnswer}
 
 -- ---- the settling test
 
@@ -32,8 +32,8 @@ unfoldable pub keepsSums : Reach → (t : ℕ) → Bool
 keepsSums s t = allBelow (cells s) (λ i. leb (positive (summed s t (suc i)) + positive (negℤ (summed s t i))) (baseAt s i))
 
 -- the record that N is added to: as it is where the sums are kept, otherwise settled with the old c first, so that c is then 0
-unfoldable pub settledFirst : Reach → (t : ℕ) → Reach
-settledFirst s t = cond (keepsSums s t) s (transported s (s .ends))
+unfoldable pub transportedFirst : Reach → (t : ℕ) → Reach
+transportedFirst s t = cond (keepsSums s t) s (afterTransport s (s .boundaries))
 
 -- ---- end water goes into the ledger by the sign of N
 
@@ -42,20 +42,20 @@ withWater t gained lost =
     record { «water_in» = t .«water_in» + gained; «water_out» = t .«water_out» + lost; «mass_in» = t .«mass_in»; «mass_out» = t .«mass_out» }
 
 -- N at interface 0 is positive inwards, N at interface n outwards
-unfoldable pub withEndWater : Ledger → (first last : ℤ) → Ledger
-withEndWater k first last = record {
+unfoldable pub withBoundaryWater : Ledger → (first last : ℤ) → Ledger
+withBoundaryWater k first last = record {
   left = withWater (k .left) (positive first) (positive (negℤ first));
   right = withWater (k .right) (positive (negℤ last)) (positive last);
 }
 
 unfoldable pub stepLedger : Reach → (t : ℕ) → Ledger
-stepLedger s t = withEndWater (settledFirst s t .ledger) (netAt s t 0) (netAt s t (cells s))
+stepLedger s t = withBoundaryWater (transportedFirst s t .ledger) (netAt s t 0) (netAt s t (cells s))
 
 -- ---- the record after the step
 
-unfoldable pub stepped : Reach → (t : ℕ) → Reach
-stepped s t =
-    let r = settledFirst s t in record {
+unfoldable pub afterStep : Reach → (t : ℕ) → Reach
+afterStep s t =
+    let r = transportedFirst s t in record {
       bed = s .bed;
       depth = tabulate (cells s) (λ i. positive (newDepth s t i));
       discharge = tabulate (cells s) (newDischarge s t);
@@ -63,7 +63,7 @@ stepped s t =
       base = r .base;
       carried = tabulate (suc (cells s)) (λ i. carriedAt r i +ℤ netAt s t i);
       cellLength = s .cellLength;
-      ends = s .ends;
+      boundaries = s .boundaries;
       ledger = stepLedger s t;
     }
 
@@ -80,7 +80,7 @@ depthsFit s t = allBelow (cells s) (λ i. leZ (newDepth s t i) (pos depthMost))
 -- 4 to 9, then 10; 11, CFL; 12; 13, no total passes 10^18 by this call, the mass of a settling inside it counted
 abbrev pub stepGrounds : Reach → (t : ℕ) → List Ground
 stepGrounds s t =
-    recordGrounds s (s .ends)
+    recordGrounds s (s .boundaries)
     ++ (ground 10 (timeFits t)
     ∷ ground 11 (meetsCfl (placeSpeed s) (cells s + 1) (s .cellLength) t)
     ∷ ground 12 (depthsFit s t)
@@ -88,22 +88,22 @@ stepGrounds s t =
     ∷ [])
 
 unfoldable pub step : Reach → (t : ℕ) → Outcome
-step s t = outcome (firstRefusal (stepGrounds s t)) s (stepped s t)
+step s t = outcome (firstRefusal (stepGrounds s t)) s (afterStep s t)
 
 -- whether an accepted step settled
-unfoldable pub settles : Reach → (t : ℕ) → Bool
-settles s t = eqb (step s t .refusal) 0 && not (keepsSums s t)
+unfoldable pub transports : Reach → (t : ℕ) → Bool
+transports s t = eqb (step s t .refusal) 0 && not (keepsSums s t)
 
 -- a refusal: its number, the boundaries and the ledger as they came, no settling
-abbrev pub stoppedBy : ℕ → List Boundary → Ledger → Stepped
-stoppedBy n es k = record { refusal = n; ends = es; ledger = k; settled = false }
+abbrev pub stoppedBy : ℕ → List Boundary → Ledger → StepAnswer
+stoppedBy n es k = record { refusal = n; boundaries = es; ledger = k; transported = false }
 
 -- a step of t came out as `step` says: every field of its answer, and every column that it may write
-pub record StepCameTo (s : Reach) (t : ℕ) (r : Stepped) (depth : List ℕ) (discharge : List ℤ) (mass base : List ℕ) (carried : List ℤ) : Type 0 where
+pub record StepCameTo (s : Reach) (t : ℕ) (r : StepAnswer) (depth : List ℕ) (discharge : List ℤ) (mass base : List ℕ) (carried : List ℤ) : Type 0 where
   pub refusal-is : r .refusal ≡ step s t .refusal
-  pub ends-are : r .ends ≡ step s t .reach .ends
+  pub boundaries-are : r .boundaries ≡ step s t .reach .boundaries
   pub ledger-is : r .ledger ≡ step s t .reach .ledger
-  pub settled-is : r .settled ≡ settles s t
+  pub transported-is : r .transported ≡ transports s t
   pub depth-is : depth ≡ step s t .reach .depth
   pub discharge-is : discharge ≡ step s t .reach .discharge
   pub mass-is : mass ≡ step s t .reach .mass

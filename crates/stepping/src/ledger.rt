@@ -8,13 +8,13 @@ ghost use Rattle.reach.specs.Grounds.{ledgerFits};
 ghost use Rattle.transport.specs.Calls.{ledgerWith, pickEntered};
 ghost use Rattle.transport.specs.Ranges.{Small};
 ghost use Rattle.water.specs.Ranges.{fluxMost};
-ghost use Rattle.stepping.specs.Step.{withWater, withEndWater};
+ghost use Rattle.stepping.specs.Step.{withWater, withBoundaryWater};
 use numbers::signed::left_part;
 use numbers::signed::right_part;
 use reach::ledger::Ledger;
 use reach::ledger::Totals;
 use reach::ledger::ledger_fits;
-use transport::Crossed;
+use transport::BoundaryMass;
 use transport::Entered;
 use transport::with_mass;
 
@@ -31,23 +31,23 @@ fn with_water(t: Totals, gained: u64, lost: u64) -> Totals
 }
 
 // `first` and `last` are N at interface 0, positive inwards, and at interface n, positive outwards.
-pub fn enter_step(k: Ledger, x: Crossed, first: i64, last: i64) -> Entered
+pub fn enter_step(k: Ledger, x: BoundaryMass, first: i64, last: i64) -> Entered
     requires { ⌜ (ledgerFits k ≡ true) × Small (x .«left_in») (x .«left_out») (x .«right_in») (x .«right_out») ⌝ }
     requires { ⌜ (natAbs first ≤ fluxMost) × (natAbs last ≤ fluxMost) ⌝ }
-    ensures { λ r. ⌜ r ≡ pickEntered (ledgerFits (withEndWater (ledgerWith k (x .«left_in») (x .«left_out») (x .«right_in») (x .«right_out»)) first last)) (withEndWater (ledgerWith k (x .«left_in») (x .«left_out») (x .«right_in») (x .«right_out»)) first last) ⌝ }
+    ensures { λ r. ⌜ r ≡ pickEntered (ledgerFits (withBoundaryWater (ledgerWith k (x .«left_in») (x .«left_out») (x .«right_in») (x .«right_out»)) first last)) (withBoundaryWater (ledgerWith k (x .«left_in») (x .«left_out») (x .«right_in») (x .«right_out»)) first last) ⌝ }
 {
     let left = k.left;
     let right = k.right;
-    let settled_left = with_mass(left, x.left_in, x.left_out);
-    let settled_right = with_mass(right, x.right_in, x.right_out);
-    let next_left = with_water(settled_left, right_part(first), left_part(first));
-    let next_right = with_water(settled_right, left_part(last), right_part(last));
+    let moved_left = with_mass(left, x.left_in, x.left_out);
+    let moved_right = with_mass(right, x.right_in, x.right_out);
+    let next_left = with_water(moved_left, right_part(first), left_part(first));
+    let next_right = with_water(moved_right, left_part(last), right_part(last));
     let next = Ledger {
         left: next_left,
         right: next_right,
     };
     if ledger_fits(next) {
-        return Entered::Booked(next);
+        return Entered::Accepted(next);
     }
     Entered::Refused(13)
 }

@@ -1,7 +1,7 @@
 // The calls of a water step: the step itself in `step`, and the greatest time step that a record allows (document 01, 'The greatest step').
 pub mod ledger;
-pub mod settling;
 pub mod step;
+pub mod transporting;
 
 ghost use mathlib.Core.Path.{_≡_};
 ghost use Rattle.cfl.specs.Ranges.{Flowing};
@@ -20,9 +20,9 @@ use reach::refusal::Check;
 // 0 or the number of the refusal; the boundaries and the ledger as they came; the greatest time step, ms; the place of the greatest
 // |u|+a: 0 the left boundary, 1..n the cells, n+1 the right boundary
 #[repr(C)]
-pub struct Greatest {
+pub struct GreatestAnswer {
     pub refusal: u32,
-    pub ends: [Boundary; 2],
+    pub boundaries: [Boundary; 2],
     pub ledger: Ledger,
     pub time: u64,
     pub place: usize,
@@ -39,21 +39,21 @@ pub fn boundary_speed(e: Boundary) -> u64
     0
 }
 
-fn refused(k: Check, ends: [Boundary; 2], ledger: Ledger) -> Greatest
-    ensures { λ r. ⌜ r ≡ refusedWith (numberOf k) ends ledger ⌝ }
+fn refused(k: Check, boundaries: [Boundary; 2], ledger: Ledger) -> GreatestAnswer
+    ensures { λ r. ⌜ r ≡ refusedWith (numberOf k) boundaries ledger ⌝ }
 {
     let Check::Refused(n) = k else {
-        return Greatest {
+        return GreatestAnswer {
             refusal: 0,
-            ends,
+            boundaries,
             ledger,
             time: 0,
             place: 0,
         };
     };
-    Greatest {
+    GreatestAnswer {
         refusal: n,
-        ends,
+        boundaries,
         ledger,
         time: 0,
         place: 0,
@@ -61,26 +61,42 @@ fn refused(k: Check, ends: [Boundary; 2], ledger: Ledger) -> Greatest
 }
 
 pub fn greatest_step(
-    z: &[i64],
-    h: &[u64],
-    q: &[i64],
-    m: &[u64],
-    b: &[u64],
-    c: &[i64],
+    bed: &[i64],
+    depth: &[u64],
+    discharge: &[i64],
+    mass: &[u64],
+    base: &[u64],
+    carried: &[i64],
     x: u64,
-    ends: [Boundary; 2],
+    boundaries: [Boundary; 2],
     ledger: Ledger,
-) -> Greatest
-    ensures { λ r. ⌜ r ≡ greatest (reachOf (now (z .entry)) (now (h .entry)) (now (q .entry)) (now (m .entry)) (now (b .entry)) (now (c .entry)) x ends ledger) ⌝ }
+) -> GreatestAnswer
+    ensures { λ r. ⌜ r ≡ greatest (reachOf (now (bed .entry)) (now (depth .entry)) (now (discharge .entry)) (now (mass .entry)) (now (base .entry)) (now (carried .entry)) x boundaries ledger) ⌝ }
 {
-    let checked = check_record(z, h, q, m, b, c, x, ends, ledger, ends);
+    let checked = check_record(
+        bed,
+        depth,
+        discharge,
+        mass,
+        base,
+        carried,
+        x,
+        boundaries,
+        ledger,
+        boundaries,
+    );
     let Check::Pass = checked else {
-        return refused(checked, ends, ledger);
+        return refused(checked, boundaries, ledger);
     };
-    let f = fastest_of(h, q, boundary_speed(ends[0]), boundary_speed(ends[1]));
-    Greatest {
+    let f = fastest_of(
+        depth,
+        discharge,
+        boundary_speed(boundaries[0]),
+        boundary_speed(boundaries[1]),
+    );
+    GreatestAnswer {
         refusal: 0,
-        ends,
+        boundaries,
         ledger,
         time: longest_step(x, f.speed),
         place: f.place,

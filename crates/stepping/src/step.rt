@@ -12,9 +12,9 @@ ghost use Rattle.reach.specs.Grounds.{firstRefusal, recordGrounds, numberOf, pa
 ghost use Rattle.reach.specs.declared.refusal.Check.the-variants.{Pass};
 ghost use Rattle.stepping.specs.Step.{timeFits, stoppedBy, StepCameTo};
 use super::ledger::enter_step;
-use super::settling::crossed_when;
-use super::settling::keeps_sums;
-use super::settling::settle_when;
+use super::transporting::boundary_mass_when;
+use super::transporting::keeps_sums;
+use super::transporting::transport_when;
 use numbers::columns::add_column;
 use numbers::columns::copy_first;
 use numbers::columns::copy_first_signed;
@@ -29,31 +29,31 @@ use water::sweep::sweep;
 // What a step hands back: 0 or the number of its refusal, the boundaries held, the ledger, and whether it settled first.
 // A refused step hands the boundaries and the ledger back as they came, and has not settled.
 #[repr(C)]
-pub struct Stepped {
+pub struct StepAnswer {
     pub refusal: u32,
-    pub ends: [Boundary; 2],
+    pub boundaries: [Boundary; 2],
     pub ledger: Ledger,
-    pub settled: bool,
+    pub transported: bool,
 }
 
-fn stopped(n: u32, ends: [Boundary; 2], ledger: Ledger) -> Stepped
-    ensures { λ r. ⌜ r ≡ stoppedBy n ends ledger ⌝ }
+fn stopped(n: u32, boundaries: [Boundary; 2], ledger: Ledger) -> StepAnswer
+    ensures { λ r. ⌜ r ≡ stoppedBy n boundaries ledger ⌝ }
 {
-    Stepped {
+    StepAnswer {
         refusal: n,
-        ends,
+        boundaries,
         ledger,
-        settled: false,
+        transported: false,
     }
 }
 
-fn refused(k: Check, ends: [Boundary; 2], ledger: Ledger) -> Stepped
-    ensures { λ r. ⌜ r ≡ stoppedBy (numberOf k) ends ledger ⌝ }
+fn refused(k: Check, boundaries: [Boundary; 2], ledger: Ledger) -> StepAnswer
+    ensures { λ r. ⌜ r ≡ stoppedBy (numberOf k) boundaries ledger ⌝ }
 {
     let Check::Refused(n) = k else {
-        return stopped(0, ends, ledger);
+        return stopped(0, boundaries, ledger);
     };
-    stopped(n, ends, ledger)
+    stopped(n, boundaries, ledger)
 }
 
 // Ground 10
@@ -86,87 +86,127 @@ fn check_depths(depth: &[u64], n: usize) -> Check
 
 // The water of an accepted step: depth and discharge as the sweep found them, and N added to the carried water
 fn write_step(
-    h: &mut [u64],
-    q: &mut [i64],
-    c: &mut [i64],
+    depth: &mut [u64],
+    discharge: &mut [i64],
+    carried: &mut [i64],
     net: &[i64],
-    depth: &[u64],
-    discharge: &[i64],
+    new_depth: &[u64],
+    new_discharge: &[i64],
 )
-    requires { ⌜ (length (now h) ≤ length (now depth)) × ((length (now q) ≤ length (now discharge)) × (length (now c) ≤ length (now net))) ⌝ }
-    requires { ⌜ ((i : ℕ) → i < length (now c) → (natAbs (getD (now c) i (pos 0)) ≤ 1_000_000_000) × (natAbs (getD (now net) i (pos 0)) ≤ 1_000_000_000)) ⌝ }
-    ensures { λ _. ⌜ now (h .exit) ≡ tabulate (length (now (h .entry))) (λ i. getD (now (depth .entry)) i 0) ⌝ }
-    ensures { λ _. ⌜ now (q .exit) ≡ tabulate (length (now (q .entry))) (λ i. getD (now (discharge .entry)) i (pos 0)) ⌝ }
-    ensures { λ _. ⌜ now (c .exit) ≡ tabulate (length (now (c .entry))) (λ i. getD (now (c .entry)) i (pos 0) +ℤ getD (now (net .entry)) i (pos 0)) ⌝ }
+    requires { ⌜ (length (now depth) ≤ length (now «new_depth»)) × ((length (now discharge) ≤ length (now «new_discharge»)) × (length (now carried) ≤ length (now net))) ⌝ }
+    requires { ⌜ ((i : ℕ) → i < length (now carried) → (natAbs (getD (now carried) i (pos 0)) ≤ 1_000_000_000) × (natAbs (getD (now net) i (pos 0)) ≤ 1_000_000_000)) ⌝ }
+    ensures { λ _. ⌜ now (depth .exit) ≡ tabulate (length (now (depth .entry))) (λ i. getD (now («new_depth» .entry)) i 0) ⌝ }
+    ensures { λ _. ⌜ now (discharge .exit) ≡ tabulate (length (now (discharge .entry))) (λ i. getD (now («new_discharge» .entry)) i (pos 0)) ⌝ }
+    ensures { λ _. ⌜ now (carried .exit) ≡ tabulate (length (now (carried .entry))) (λ i. getD (now (carried .entry)) i (pos 0) +ℤ getD (now (net .entry)) i (pos 0)) ⌝ }
 {
-    copy_first(h, depth);
-    copy_first_signed(q, discharge);
-    add_column(c, net);
+    copy_first(depth, new_depth);
+    copy_first_signed(discharge, new_discharge);
+    add_column(carried, net);
 }
 
 // Grounds 11 to 13 and the step itself, on a record and a time that stood those before
 fn advance(
-    z: &[i64],
-    h: &mut [u64],
-    q: &mut [i64],
-    m: &mut [u64],
-    b: &mut [u64],
-    c: &mut [i64],
+    bed: &[i64],
+    depth: &mut [u64],
+    discharge: &mut [i64],
+    mass: &mut [u64],
+    base: &mut [u64],
+    carried: &mut [i64],
     x: u64,
-    ends: [Boundary; 2],
+    boundaries: [Boundary; 2],
     ledger: Ledger,
     t: u64,
-) -> Stepped
-    requires { ⌜ firstRefusal (recordGrounds (reachOf (now z) (now h) (now q) (now m) (now b) (now c) x ends ledger) ends) ≡ Pass ⌝ }
+) -> StepAnswer
+    requires { ⌜ firstRefusal (recordGrounds (reachOf (now bed) (now depth) (now discharge) (now mass) (now base) (now carried) x boundaries ledger) boundaries) ≡ Pass ⌝ }
     requires { ⌜ timeFits t ≡ true ⌝ }
-    ensures { λ r. ⌜ StepCameTo (reachOf (now (z .entry)) (now (h .entry)) (now (q .entry)) (now (m .entry)) (now (b .entry)) (now (c .entry)) x ends ledger) t r (now (h .exit)) (now (q .exit)) (now (m .exit)) (now (b .exit)) (now (c .exit)) ⌝ }
+    ensures { λ r. ⌜ StepCameTo (reachOf (now (bed .entry)) (now (depth .entry)) (now (discharge .entry)) (now (mass .entry)) (now (base .entry)) (now (carried .entry)) x boundaries ledger) t r (now (depth .exit)) (now (discharge .exit)) (now (mass .exit)) (now (base .exit)) (now (carried .exit)) ⌝ }
 {
-    let n = z.len();
+    let n = bed.len();
     let mut net = [0i64; CELLS_MOST + 1];
-    let mut depth = [0u64; CELLS_MOST];
-    let mut discharge = [0i64; CELLS_MOST];
-    let Check::Pass = sweep(t, x, z, h, q, ends, &mut net, &mut depth, &mut discharge) else {
-        return stopped(11, ends, ledger);
+    let mut new_depth = [0u64; CELLS_MOST];
+    let mut new_discharge = [0i64; CELLS_MOST];
+    let Check::Pass = sweep(
+        t,
+        x,
+        bed,
+        depth,
+        discharge,
+        boundaries,
+        &mut net,
+        &mut new_depth,
+        &mut new_discharge,
+    ) else {
+        return stopped(11, boundaries, ledger);
     };
-    let Check::Pass = check_depths(&depth, n) else {
-        return stopped(12, ends, ledger);
+    let Check::Pass = check_depths(&new_depth, n) else {
+        return stopped(12, boundaries, ledger);
     };
-    let settles = !keeps_sums(b, c, &net);
-    let crossed = crossed_when(settles, m, b, c, ends);
-    let Entered::Booked(next) = enter_step(ledger, crossed, net[0], net[n]) else {
-        return stopped(13, ends, ledger);
+    let transports = !keeps_sums(base, carried, &net);
+    let crossed = boundary_mass_when(transports, mass, base, carried, boundaries);
+    let Entered::Accepted(next) = enter_step(ledger, crossed, net[0], net[n]) else {
+        return stopped(13, boundaries, ledger);
     };
-    settle_when(settles, h, m, b, c, crossed.left_in, crossed.right_in);
-    write_step(h, q, c, &net, &depth, &discharge);
-    Stepped {
+    transport_when(
+        transports,
+        depth,
+        mass,
+        base,
+        carried,
+        crossed.left_in,
+        crossed.right_in,
+    );
+    write_step(depth, discharge, carried, &net, &new_depth, &new_discharge);
+    StepAnswer {
         refusal: 0,
-        ends,
+        boundaries,
         ledger: next,
-        settled: settles,
+        transported: transports,
     }
 }
 
 // One water step of t ms.
 pub fn step(
-    z: &[i64],
-    h: &mut [u64],
-    q: &mut [i64],
-    m: &mut [u64],
-    b: &mut [u64],
-    c: &mut [i64],
+    bed: &[i64],
+    depth: &mut [u64],
+    discharge: &mut [i64],
+    mass: &mut [u64],
+    base: &mut [u64],
+    carried: &mut [i64],
     x: u64,
-    ends: [Boundary; 2],
+    boundaries: [Boundary; 2],
     ledger: Ledger,
     t: u64,
-) -> Stepped
-    ensures { λ r. ⌜ StepCameTo (reachOf (now (z .entry)) (now (h .entry)) (now (q .entry)) (now (m .entry)) (now (b .entry)) (now (c .entry)) x ends ledger) t r (now (h .exit)) (now (q .exit)) (now (m .exit)) (now (b .exit)) (now (c .exit)) ⌝ }
+) -> StepAnswer
+    ensures { λ r. ⌜ StepCameTo (reachOf (now (bed .entry)) (now (depth .entry)) (now (discharge .entry)) (now (mass .entry)) (now (base .entry)) (now (carried .entry)) x boundaries ledger) t r (now (depth .exit)) (now (discharge .exit)) (now (mass .exit)) (now (base .exit)) (now (carried .exit)) ⌝ }
 {
-    let checked = check_record(z, h, q, m, b, c, x, ends, ledger, ends);
+    let checked = check_record(
+        bed,
+        depth,
+        discharge,
+        mass,
+        base,
+        carried,
+        x,
+        boundaries,
+        ledger,
+        boundaries,
+    );
     let Check::Pass = checked else {
-        return refused(checked, ends, ledger);
+        return refused(checked, boundaries, ledger);
     };
     let Check::Pass = check_time(t) else {
-        return stopped(10, ends, ledger);
+        return stopped(10, boundaries, ledger);
     };
-    advance(z, h, q, m, b, c, x, ends, ledger, t)
+    advance(
+        bed,
+        depth,
+        discharge,
+        mass,
+        base,
+        carried,
+        x,
+        boundaries,
+        ledger,
+        t,
+    )
 }

@@ -14,51 +14,51 @@ use Rattle.mass.specs.Transport.{rightwards, leftwards, leftShare, rightShare}
 use Rattle.reach.specs.Reach.{Reach, cells}
 use Rattle.reach.specs.Grounds.{firstRefusal, ledgerFits}
 use Rattle.reach.specs.Outcome.{Outcome, outcome}
-use Rattle.reach.specs.Balance.{waterHeld, waterIn, waterOut, WaterBalanced, massHeld, massIn, massOut, MassBalanced, CellsWithin, EndsWithin}
+use Rattle.reach.specs.Balance.{waterHeld, waterIn, waterOut, WaterBalanced, massHeld, massIn, massOut, MassBalanced, CellsWithin, BoundariesWithin}
 use Rattle.reach.specs.declared.boundary.Boundary.{Boundary}
 use Rattle.reach.specs.declared.ledger.Ledger.{Ledger}
 use Rattle.reach.specs.declared.refusal.Check.{Check}
 use Rattle.reach.specs.declared.refusal.Check.the-variants.{Pass, Refused}
 use Rattle.reach.proofs.Sound.{Sound}
-use Rattle.transport.specs.Calls.{enteringLeft, enteringRight, columnsOf, withMass, ledgerWith, transportLedger, transported, transport, setBoundaries}
-use Rattle.transport.proofs.CallsLaws.{by-outcome, transported-balanced, transported-within}
+use Rattle.transport.specs.Calls.{enteringLeft, enteringRight, massColumnsOf, withMass, ledgerWith, transportLedger, afterTransport, transport, setBoundaries}
+use Rattle.transport.proofs.CallsLaws.{by-outcome, transport-balanced, transport-within}
 use Rattle.water.specs.Water.{netAt, newDepth}
 use Rattle.cfl.specs.Cfl.{meetsCfl}
 use Rattle.stepping.specs.GreatestStep.{placeSpeed, greatest}
-use Rattle.stepping.specs.Step.{keepsSums, settledFirst, withWater, withEndWater, stepLedger, stepped, step}
+use Rattle.stepping.specs.Step.{keepsSums, transportedFirst, withWater, withBoundaryWater, stepLedger, afterStep, step}
 use Rattle.stepping.proofs.StepLaws.{by-step, depth-not-negative, step-water-balanced, step-mass-balanced, step-within}
-use Rattle.sheet.specs.Header.{endsOf}
+use Rattle.sheet.specs.Header.{boundariesOf}
 use Rattle.sheet.specs.Opening.{sheetRecord, opening}
 use Rattle.sheet.proofs.OpeningLaws.{by-opening}
-use Rattle.tally.specs.Call.{Call, stepBy, settle, setEnds, askGreatest, writeInto, reopen, refusalOf, next, final}
-use Rattle.tally.specs.Tally.{Step, Tally, addWater, addMass, addStep, withSums, start, afterStep, afterSettling, afterSetting, accepted, unless, count, run}
+use Rattle.tally.specs.Call.{Call, stepCall, transportCall, boundariesCall, greatestCall, writeCall, openCall, refusalOf, next, final}
+use Rattle.tally.specs.Tally.{AcceptedStep, Tally, addWater, addMass, addStep, withSums, start, countStep, countTransport, countSetting, accepted, ifAccepted, count, run}
 use Rattle.tally.specs.Holds.{Each, DepthsFromZero, Accounts, Holds, OfDefinitions}
 
 -- ---- the tally's sums are the ledger of the definitions: document 01 gives each once as a book and once as a tally
 
 module _ (s : Reach) (k : Sound s) where
-  first-out : leftwards (columnsOf s) 0 ≡ leftShare (columnsOf s) 0
+  first-out : leftwards (massColumnsOf s) 0 ≡ leftShare (massColumnsOf s) 0
   unfolding leftwards
   first-out = let n = k .some in let m = k .masses in rw (lt-ltb 0 (length (s .mass)) (omega arith)) refl
 
-  last-out : rightwards (columnsOf s) (cells s) ≡ rightShare (columnsOf s) (cells s - 1)
+  last-out : rightwards (massColumnsOf s) (cells s) ≡ rightShare (massColumnsOf s) (cells s - 1)
   unfolding rightwards
   last-out =
       let n = k .some in
       let e : cells s ≡ suc (cells s - 1) = omega arith in
-      ap (rightwards (columnsOf s)) e
+      ap (rightwards (massColumnsOf s)) e
 
   pub mass-added : addMass s (s .ledger) ≡ transportLedger s
   unfolding addMass transportLedger ledgerWith withMass enteringLeft enteringRight
   mass-added = rw (first-out, last-out) refl
 
   pub step-added : (t : ℕ) → addStep s t (s .ledger) ≡ stepLedger s t
-  unfolding addStep addWater stepLedger withEndWater withWater settledFirst transported
+  unfolding addStep addWater stepLedger withBoundaryWater withWater transportedFirst afterTransport
   step-added t = rw mass-added (go (keepsSums s t))
     where
       go : (b : Bool) →
           addWater (netAt s t 0) (netAt s t (cells s)) (cond b (s .ledger) (transportLedger s))
-          ≡ withEndWater (cond b s (transported s (s .ends)) .ledger) (netAt s t 0) (netAt s t (cells s))
+          ≡ withBoundaryWater (cond b s (afterTransport s (s .boundaries)) .ledger) (netAt s t 0) (netAt s t (cells s))
       go true = refl
       go false = refl
 
@@ -67,7 +67,7 @@ module _ (s : Reach) (k : Sound s) where
 pub record Kept (T : Tally) : Type 0 where
   pub holds : Holds T (T .own)
   -- what the bounds of a settling need
-  pub ends-within : (lo hi : ℕ) → Each (EndsWithin lo hi) (T .held) → EndsWithin lo hi (T .own .ends)
+  pub boundaries-within : (lo hi : ℕ) → Each (BoundariesWithin lo hi) (T .held) → BoundariesWithin lo hi (T .own .boundaries)
 
 start-kept : (sheet : List ℕ) → Kept (start sheet)
 unfolding start sheetRecord waterHeld waterIn waterOut massHeld massIn massOut Each Accounts
@@ -80,7 +80,7 @@ start-kept sheet = record {
     depths = tt;
     bounds = λ lo hi c e. record { above = c .above; below = c .below };
   };
-  ends-within = λ lo hi e. e .0;
+  boundaries-within = λ lo hi e. e .0;
 }
 
 from-zero : (n : ℕ) → leZ (pos 0) (pos n) ≡ true
@@ -88,7 +88,7 @@ from-zero n = le-leb 0 n (omega arith)
 
 module _ (T : Tally) (K : Kept T) where
   -- what a balanced call makes of the account since the opening
-  water-on : (s : Reach) (k : Ledger) → s .ledger ≡ k → WaterBalanced (T .own) s → Accounts (waterHeld s) (waterHeld (T .opening)) (waterIn k) (waterOut k)
+  water-on : (s : Reach) (k : Ledger) → s .ledger ≡ k → WaterBalanced (T .own) s → Accounts (waterHeld s) (waterHeld (T .initial)) (waterIn k) (waterOut k)
   unfolding WaterBalanced Accounts
   water-on s k e b =
       let h = K .holds .water in
@@ -99,7 +99,7 @@ module _ (T : Tally) (K : Kept T) where
       let o' = ap waterOut e in
       omega arith
 
-  mass-on : (s : Reach) (k : Ledger) → s .ledger ≡ k → MassBalanced (T .own) s → Accounts (massHeld s) (massHeld (T .opening)) (massIn k) (massOut k)
+  mass-on : (s : Reach) (k : Ledger) → s .ledger ≡ k → MassBalanced (T .own) s → Accounts (massHeld s) (massHeld (T .initial)) (massIn k) (massOut k)
   unfolding MassBalanced Accounts
   mass-on s k e b =
       let h = K .holds .mass in
@@ -111,80 +111,80 @@ module _ (T : Tally) (K : Kept T) where
       omega arith
 
   -- the sums go on as the ledger does
-  sums-step : Sound (T .own) → (t : ℕ) → stepped (T .own) t .ledger ≡ addStep (T .own) t (T .sums)
-  unfolding stepped
+  sums-step : Sound (T .own) → (t : ℕ) → afterStep (T .own) t .ledger ≡ addStep (T .own) t (T .sums)
+  unfolding afterStep
   sums-step k t = sym (step-added (T .own) k t) ∙ ap (addStep (T .own) t) (K .holds .ledger)
 
-  sums-mass : Sound (T .own) → (es : List Boundary) → transported (T .own) es .ledger ≡ addMass (T .own) (T .sums)
-  unfolding transported
+  sums-mass : Sound (T .own) → (es : List Boundary) → afterTransport (T .own) es .ledger ≡ addMass (T .own) (T .sums)
+  unfolding afterTransport
   sums-mass k es = sym (mass-added (T .own) k) ∙ ap (addMass (T .own)) (K .holds .ledger)
 
-  step-kept : (t : ℕ) → Sound (T .own) → meetsCfl (placeSpeed (T .own)) (cells (T .own) + 1) (T .own .cellLength) t ≡ true → Kept (afterStep T t)
-  unfolding afterStep Each DepthsFromZero waterHeld massHeld stepped
+  step-kept : (t : ℕ) → Sound (T .own) → meetsCfl (placeSpeed (T .own)) (cells (T .own) + 1) (T .own .cellLength) t ≡ true → Kept (countStep T t)
+  unfolding countStep Each DepthsFromZero waterHeld massHeld afterStep
   step-kept t k c =
       let e = sums-step k t in record {
         holds = record {
           own = refl;
           ledger = refl;
-          water = water-on (stepped (T .own) t) _ e (step-water-balanced (T .own) k t c);
-          mass = mass-on (stepped (T .own) t) _ e (step-mass-balanced (T .own) k t);
+          water = water-on (afterStep (T .own) t) _ e (step-water-balanced (T .own) k t c);
+          mass = mass-on (afterStep (T .own) t) _ e (step-mass-balanced (T .own) k t);
           depths = (λ i l. ap (leZ (pos 0)) (depth-not-negative (T .own) k t c i l) ∙ from-zero (positive (newDepth (T .own) t i)), K .holds .depths);
           bounds = λ lo hi o h.
-              let w = step-within (T .own) k t lo hi (K .holds .bounds lo hi o h) (K .ends-within lo hi h) in
+              let w = step-within (T .own) k t lo hi (K .holds .bounds lo hi o h) (K .boundaries-within lo hi h) in
               record { above = w .above; below = w .below };
         };
-        ends-within = K .ends-within;
+        boundaries-within = K .boundaries-within;
       }
 
-  settled-water : (es : List Boundary) → WaterBalanced (T .own) (transported (T .own) es)
-  unfolding WaterBalanced waterHeld waterIn waterOut transported transportLedger ledgerWith withMass
-  settled-water es = refl
+  transported-water : (es : List Boundary) → WaterBalanced (T .own) (afterTransport (T .own) es)
+  unfolding WaterBalanced waterHeld waterIn waterOut afterTransport transportLedger ledgerWith withMass
+  transported-water es = refl
 
-  setting-kept : (es : List Boundary) → Sound (T .own) → Kept (afterSetting T es)
-  unfolding afterSetting Each waterHeld massHeld transported
+  setting-kept : (es : List Boundary) → Sound (T .own) → Kept (countSetting T es)
+  unfolding countSetting Each waterHeld massHeld afterTransport
   setting-kept es k =
       let e = sums-mass k es in record {
         holds = record {
           own = refl;
           ledger = refl;
-          water = water-on (transported (T .own) es) _ e (settled-water es);
-          mass = mass-on (transported (T .own) es) _ e (transported-balanced (T .own) k es);
+          water = water-on (afterTransport (T .own) es) _ e (transported-water es);
+          mass = mass-on (afterTransport (T .own) es) _ e (transport-balanced (T .own) k es);
           depths = K .holds .depths;
           bounds = λ lo hi o h.
-              let w = transported-within (T .own) k es lo hi (K .holds .bounds lo hi o (h .1)) (K .ends-within lo hi (h .1)) in
+              let w = transport-within (T .own) k es lo hi (K .holds .bounds lo hi o (h .1)) (K .boundaries-within lo hi (h .1)) in
               record { above = w .above; below = w .below };
         };
-        ends-within = λ lo hi h. h .0;
+        boundaries-within = λ lo hi h. h .0;
       }
 
-  settling-kept : Sound (T .own) → Kept (afterSettling T)
-  unfolding afterSettling waterHeld massHeld transported
-  settling-kept k =
-      let es = T .own .ends in
+  transporting-kept : Sound (T .own) → Kept (countTransport T)
+  unfolding countTransport waterHeld massHeld afterTransport
+  transporting-kept k =
+      let es = T .own .boundaries in
       let e = sums-mass k es in record {
         holds = record {
           own = refl;
           ledger = refl;
-          water = water-on (transported (T .own) es) _ e (settled-water es);
-          mass = mass-on (transported (T .own) es) _ e (transported-balanced (T .own) k es);
+          water = water-on (afterTransport (T .own) es) _ e (transported-water es);
+          mass = mass-on (afterTransport (T .own) es) _ e (transport-balanced (T .own) k es);
           depths = K .holds .depths;
           bounds = λ lo hi o h.
-              let w = transported-within (T .own) k es lo hi (K .holds .bounds lo hi o h) (K .ends-within lo hi h) in
+              let w = transport-within (T .own) k es lo hi (K .holds .bounds lo hi o h) (K .boundaries-within lo hi h) in
               record { above = w .above; below = w .below };
         };
-        ends-within = K .ends-within;
+        boundaries-within = K .boundaries-within;
       }
 
   -- the tally after a call of refusal n
   abbrev after : ℕ → Call → Tally
-  after n c = unless n T (accepted T c)
+  after n c = ifAccepted n (accepted T c) T
 
   stays : (n : ℕ) (c : Call) → 0 < n → after n c ≡ T
-  unfolding unless
+  unfolding ifAccepted
   stays n c p = rw (ne-eqb n 0 (λ z. omega arith)) refl
 
   either : (c : Call) → Kept (accepted T c) → Kept (after (refusalOf (T .own) c) c)
-  unfolding unless
+  unfolding ifAccepted
   either c k = go (eqb (refusalOf (T .own) c) 0)
     where
       go : (b : Bool) → Kept (cond b (accepted T c) T)
@@ -192,52 +192,52 @@ module _ (T : Tally) (K : Kept T) where
       go false = K
 
   pub count-kept : (c : Call) → Kept (count T c)
-  unfolding count unless transport
-  count-kept (stepBy t) =
-      by-step (T .own) t (λ o. Kept (after (o .refusal) (stepBy t)))
-      (λ n p. subst Kept (sym (stays n (stepBy t) p)) K)
+  unfolding count ifAccepted transport
+  count-kept (stepCall t) =
+      by-step (T .own) t (λ o. Kept (after (o .refusal) (stepCall t)))
+      (λ n p. subst Kept (sym (stays n (stepCall t) p)) K)
       (λ k c d l. step-kept t k c)
-  count-kept settle =
-      by-outcome (T .own) (T .own .ends) (λ o. Kept (after (o .refusal) settle))
-      (λ n p. subst Kept (sym (stays n settle p)) K)
-      (λ k f l. settling-kept k)
-  count-kept (setEnds es) =
-      by-outcome (T .own) es (λ o. Kept (after (o .refusal) (setEnds es)))
-      (λ n p. subst Kept (sym (stays n (setEnds es) p)) K)
+  count-kept transportCall =
+      by-outcome (T .own) (T .own .boundaries) (λ o. Kept (after (o .refusal) transportCall))
+      (λ n p. subst Kept (sym (stays n transportCall p)) K)
+      (λ k f l. transporting-kept k)
+  count-kept (boundariesCall es) =
+      by-outcome (T .own) es (λ o. Kept (after (o .refusal) (boundariesCall es)))
+      (λ n p. subst Kept (sym (stays n (boundariesCall es) p)) K)
       (λ k f l. setting-kept es k)
-  count-kept askGreatest = either askGreatest K
-  count-kept (writeInto room) = either (writeInto room) K
-  count-kept (reopen sheet) = either (reopen sheet) (start-kept sheet)
+  count-kept greatestCall = either greatestCall K
+  count-kept (writeCall room) = either (writeCall room) K
+  count-kept (openCall sheet) = either (openCall sheet) (start-kept sheet)
 
   -- ---- the tally's own record moves as the program's does
 
   pub count-next : (c : Call) → count T c .own ≡ next (T .own) c
-  unfolding count unless transport afterStep afterSettling afterSetting stepped transported start opening sheetRecord
-  count-next (stepBy t) =
-      by-step (T .own) t (λ o. after (o .refusal) (stepBy t) .own ≡ o .reach)
-      (λ n p. ap (λ (x : Tally). x .own) (stays n (stepBy t) p))
-      (λ k c d l. ap (withSums (stepped (T .own) t)) (sym (sums-step k t)))
-  count-next settle =
-      by-outcome (T .own) (T .own .ends) (λ o. after (o .refusal) settle .own ≡ o .reach)
-      (λ n p. ap (λ (x : Tally). x .own) (stays n settle p))
-      (λ k f l. ap (withSums (transported (T .own) (T .own .ends))) (sym (sums-mass k (T .own .ends))))
-  count-next (setEnds es) =
-      by-outcome (T .own) es (λ o. after (o .refusal) (setEnds es) .own ≡ o .reach)
-      (λ n p. ap (λ (x : Tally). x .own) (stays n (setEnds es) p))
-      (λ k f l. ap (withSums (transported (T .own) es)) (sym (sums-mass k es)))
-  count-next askGreatest = go (eqb (greatest (T .own) .refusal) 0)
+  unfolding count ifAccepted transport countStep countTransport countSetting afterStep afterTransport start opening sheetRecord
+  count-next (stepCall t) =
+      by-step (T .own) t (λ o. after (o .refusal) (stepCall t) .own ≡ o .reach)
+      (λ n p. ap (λ (x : Tally). x .own) (stays n (stepCall t) p))
+      (λ k c d l. ap (withSums (afterStep (T .own) t)) (sym (sums-step k t)))
+  count-next transportCall =
+      by-outcome (T .own) (T .own .boundaries) (λ o. after (o .refusal) transportCall .own ≡ o .reach)
+      (λ n p. ap (λ (x : Tally). x .own) (stays n transportCall p))
+      (λ k f l. ap (withSums (afterTransport (T .own) (T .own .boundaries))) (sym (sums-mass k (T .own .boundaries))))
+  count-next (boundariesCall es) =
+      by-outcome (T .own) es (λ o. after (o .refusal) (boundariesCall es) .own ≡ o .reach)
+      (λ n p. ap (λ (x : Tally). x .own) (stays n (boundariesCall es) p))
+      (λ k f l. ap (withSums (afterTransport (T .own) es)) (sym (sums-mass k es)))
+  count-next greatestCall = go (eqb (greatest (T .own) .refusal) 0)
     where
       go : (b : Bool) → cond b T T .own ≡ T .own
       go true = refl
       go false = refl
-  count-next (writeInto room) = go (eqb (refusalOf (T .own) (writeInto room)) 0)
+  count-next (writeCall room) = go (eqb (refusalOf (T .own) (writeCall room)) 0)
     where
       go : (b : Bool) → cond b T T .own ≡ T .own
       go true = refl
       go false = refl
-  count-next (reopen sheet) =
-      by-opening sheet (T .own) (λ (x : Check). after (outcome x (T .own) (sheetRecord sheet) .refusal) (reopen sheet) .own ≡ outcome x (T .own) (sheetRecord sheet) .reach)
-      (λ n p. ap (λ (x : Tally). x .own) (stays n (reopen sheet) p))
+  count-next (openCall sheet) =
+      by-opening sheet (T .own) (λ (x : Check). after (outcome x (T .own) (sheetRecord sheet) .refusal) (openCall sheet) .own ≡ outcome x (T .own) (sheetRecord sheet) .reach)
+      (λ n p. ap (λ (x : Tally). x .own) (stays n (openCall sheet) p))
       (λ e. refl)
 
 pub run-kept : (T : Tally) → Kept T → (cs : List Call) → Kept (run T cs)

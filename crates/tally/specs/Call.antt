@@ -12,37 +12,37 @@ use Rattle.transport.specs.Calls.{transport, setBoundaries}
 use Rattle.stepping.specs.GreatestStep.{greatest}
 use Rattle.stepping.specs.Step.{step}
 use Rattle.sheet.specs.Opening.{opening}
-use Rattle.sheet.specs.declared.opening.Opened.{Opened}
+use Rattle.sheet.specs.declared.opening.OpenAnswer.{OpenAnswer}
 use Rattle.writing.specs.Writing.{writeRefusal}
 
 pub data Call : Type 0 where
   -- a step of t ms
-  stepBy : (t : ℕ) → Call
-  settle : Call
-  setEnds : (given : List Boundary) → Call
-  askGreatest : Call
+  stepCall : (t : ℕ) → Call
+  transportCall : Call
+  boundariesCall : (given : List Boundary) → Call
+  greatestCall : Call
   -- a write into an output of `room` bytes: no other property of the output concerns the record
-  writeInto : (room : ℕ) → Call
+  writeCall : (room : ℕ) → Call
   -- an opening in between
-  reopen : (sheet : List ℕ) → Call
+  openCall : (sheet : List ℕ) → Call
 
 -- the number of the first ground that stops the call, 0 for none
 abbrev pub refusalOf : Reach → Call → ℕ
-refusalOf s (stepBy t) = step s t .refusal
-refusalOf s settle = transport s .refusal
-refusalOf s (setEnds es) = setBoundaries s es .refusal
-refusalOf s askGreatest = greatest s .refusal
-refusalOf s (writeInto room) = numberOf (writeRefusal s room)
-refusalOf s (reopen sheet) = opening sheet s .refusal
+refusalOf s (stepCall t) = step s t .refusal
+refusalOf s transportCall = transport s .refusal
+refusalOf s (boundariesCall es) = setBoundaries s es .refusal
+refusalOf s greatestCall = greatest s .refusal
+refusalOf s (writeCall room) = numberOf (writeRefusal s room)
+refusalOf s (openCall sheet) = opening sheet s .refusal
 
 -- the record that the call leaves; a refused opening leaves the columns, and the list goes on with the ends and the book that it had
 abbrev pub next : Reach → Call → Reach
-next s (stepBy t) = step s t .reach
-next s settle = transport s .reach
-next s (setEnds es) = setBoundaries s es .reach
-next s askGreatest = s
-next s (writeInto room) = s
-next s (reopen sheet) = opening sheet s .reach
+next s (stepCall t) = step s t .reach
+next s transportCall = transport s .reach
+next s (boundariesCall es) = setBoundaries s es .reach
+next s greatestCall = s
+next s (writeCall room) = s
+next s (openCall sheet) = opening sheet s .reach
 
 -- and that a list of calls leaves, each getting the record, ends and book as the last left them
 unfoldable pub final : Reach → List Call → Reach
@@ -51,6 +51,6 @@ final s (c ∷ cs) = final (next s c) cs
 
 -- what the list goes on with after an opening in between, by its answer r and the columns at its exit: of an accepted one X, ends and book of
 -- its answer; after a refused one those that it had, of the record s
-abbrev pub goesOn : Reach → Opened → List ℤ → List ℕ → List ℤ → List ℕ → List ℕ → List ℤ → Reach
+abbrev pub goesOn : Reach → OpenAnswer → List ℤ → List ℕ → List ℤ → List ℕ → List ℕ → List ℤ → Reach
 goesOn s r z h q m b c =
-    cond (eqb (r .refusal) 0) (reachOf z h q m b c (r .«cell_length») (r .ends) (r .ledger)) (reachOf z h q m b c (s .cellLength) (s .ends) (s .ledger))
+    cond (eqb (r .refusal) 0) (reachOf z h q m b c (r .«cell_length») (r .boundaries) (r .ledger)) (reachOf z h q m b c (s .cellLength) (s .boundaries) (s .ledger))

@@ -7,12 +7,12 @@ use Prim.Native.Nat.{ℕ, _+_, _<_}
 use lib.IntN.{pos}
 use lib.Signed.{leZ}
 use Rattle.reach.specs.Reach.{Reach, cells}
-use Rattle.reach.specs.Balance.{waterHeld, waterIn, waterOut, massHeld, massIn, massOut, CellsWithin, EndsWithin}
+use Rattle.reach.specs.Balance.{waterHeld, waterIn, waterOut, massHeld, massIn, massOut, CellsWithin, BoundariesWithin}
 use Rattle.reach.specs.declared.boundary.Boundary.{Boundary}
 use Rattle.water.specs.Water.{newDepth}
 use Rattle.sheet.specs.Opening.{opening}
 use Rattle.tally.specs.Call.{Call, final}
-use Rattle.tally.specs.Tally.{Step, Tally, start, run}
+use Rattle.tally.specs.Tally.{AcceptedStep, Tally, start, run}
 
 -- P of each of a list
 unfoldable pub Each : {A : Type 0} → (A → Type 0) → List A → Type 0
@@ -20,7 +20,7 @@ Each P [] = Unit {0}
 Each P (x ∷ xs) = P x × Each P xs
 
 -- the formula for h', in whole numbers that may be negative, gives no less than 0 in any cell
-unfoldable pub DepthsFromZero : Step → Type 0
+unfoldable pub DepthsFromZero : AcceptedStep → Type 0
 DepthsFromZero a = (i : ℕ) → i < cells (a .before) → leZ (pos 0) (newDepth (a .before) (a .time) i) ≡ true
 
 -- held = opening + in − out, without a subtraction
@@ -31,16 +31,16 @@ pub record Holds (T : Tally) (s : Reach) : Type 0 where
   -- the record is the tally's own, so the tally's steps and settlings are those of the program
   pub own : s ≡ T .own
   -- 'the water held equals the opening water plus what the ends let in less what they let out, added up from the steps themselves'
-  pub water : Accounts (waterHeld s) (waterHeld (T .opening)) (waterIn (T .sums)) (waterOut (T .sums))
+  pub water : Accounts (waterHeld s) (waterHeld (T .initial)) (waterIn (T .sums)) (waterOut (T .sums))
   -- 'and the nutrient likewise from the settlings'
-  pub mass : Accounts (massHeld s) (massHeld (T .opening)) (massIn (T .sums)) (massOut (T .sums))
+  pub mass : Accounts (massHeld s) (massHeld (T .initial)) (massIn (T .sums)) (massOut (T .sums))
   -- 'the book's totals equal those sums', total for total
   pub ledger : s .ledger ≡ T .sums
   -- 'no depth is below zero', in any accepted step of the list
   pub depths : Each DepthsFromZero (T .steps)
   -- 'any two whole numbers that bound the concentration of every opening cell and of every end but a wall held or set since still bound
   -- each cell, measured against the depth at its last settling, with nothing allowed for rounding'
-  pub bounds : (lo hi : ℕ) → CellsWithin lo hi (T .opening) → Each (EndsWithin lo hi) (T .held) → CellsWithin lo hi s
+  pub bounds : (lo hi : ℕ) → CellsWithin lo hi (T .initial) → Each (BoundariesWithin lo hi) (T .held) → CellsWithin lo hi s
 
 -- of the definitions: after every list of calls, of any length, from an accepted opening into whatever columns were lent
 abbrev pub OfDefinitions : Type 0

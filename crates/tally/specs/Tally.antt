@@ -7,24 +7,24 @@ use lib.Dec.{eqb}
 use lib.IntN.{ℤ, negℤ}
 use Rattle.numbers.specs.Signed.{positive}
 use Rattle.mass.specs.Transport.{leftShare, rightShare}
-use Rattle.reach.specs.Reach.{Reach, reachOf, cells, carriedAt, leftEnd, rightEnd}
+use Rattle.reach.specs.Reach.{Reach, reachOf, cells, carriedAt, leftBoundary, rightBoundary}
 use Rattle.reach.specs.declared.boundary.Boundary.{Boundary}
 use Rattle.reach.specs.declared.ledger.Ledger.{Ledger}
-use Rattle.transport.specs.Calls.{columnsOf, transported}
+use Rattle.transport.specs.Calls.{massColumnsOf, afterTransport}
 use Rattle.water.specs.Water.{netAt}
-use Rattle.stepping.specs.Step.{keepsSums, stepped}
-use Rattle.sheet.specs.Header.{endsOf}
+use Rattle.stepping.specs.Step.{keepsSums, afterStep}
+use Rattle.sheet.specs.Header.{boundariesOf}
 use Rattle.sheet.specs.Opening.{sheetRecord}
-use Rattle.tally.specs.Call.{Call, stepBy, settle, setEnds, askGreatest, writeInto, reopen, refusalOf}
+use Rattle.tally.specs.Call.{Call, stepCall, transportCall, boundariesCall, greatestCall, writeCall, openCall, refusalOf}
 
 -- an accepted step: the record that it was given, and its t
-pub record Step : Type 0 where
+pub record AcceptedStep : Type 0 where
   pub before : Reach
   pub time : ℕ
 
 pub record Tally : Type 0 where
   -- the record as the sheet has it
-  pub opening : Reach
+  pub initial : Reach
   -- the tally's own record, by now
   pub own : Reach
   -- the sums, which serve as its book
@@ -32,7 +32,7 @@ pub record Tally : Type 0 where
   -- the pairs of ends held or set since: that of the sheet and of every accepted end setting
   pub held : List (List Boundary)
   -- the accepted steps of the list
-  pub steps : List Step
+  pub steps : List AcceptedStep
 
 -- ---- the sums
 
@@ -61,14 +61,14 @@ addMass s k = record {
   left = record {
     «water_in» = k .left .«water_in»;
     «water_out» = k .left .«water_out»;
-    «mass_in» = k .left .«mass_in» + positive (carriedAt s 0) * leftEnd (s .ends) .concentration;
-    «mass_out» = k .left .«mass_out» + leftShare (columnsOf s) 0;
+    «mass_in» = k .left .«mass_in» + positive (carriedAt s 0) * leftBoundary (s .boundaries) .concentration;
+    «mass_out» = k .left .«mass_out» + leftShare (massColumnsOf s) 0;
   };
   right = record {
     «water_in» = k .right .«water_in»;
     «water_out» = k .right .«water_out»;
-    «mass_in» = k .right .«mass_in» + positive (negℤ (carriedAt s (cells s))) * rightEnd (s .ends) .concentration;
-    «mass_out» = k .right .«mass_out» + rightShare (columnsOf s) (cells s - 1);
+    «mass_in» = k .right .«mass_in» + positive (negℤ (carriedAt s (cells s))) * rightBoundary (s .boundaries) .concentration;
+    «mass_out» = k .right .«mass_out» + rightShare (massColumnsOf s) (cells s - 1);
   };
 }
 
@@ -80,7 +80,7 @@ addStep s t k = addWater (netAt s t 0) (netAt s t (cells s)) (cond (keepsSums s 
 
 -- the record with the sums for its book
 abbrev pub withSums : Reach → Ledger → Reach
-withSums s k = reachOf (s .bed) (s .depth) (s .discharge) (s .mass) (s .base) (s .carried) (s .cellLength) (s .ends) k
+withSums s k = reachOf (s .bed) (s .depth) (s .discharge) (s .mass) (s .base) (s .carried) (s .cellLength) (s .boundaries) k
 
 -- sums start at 0
 abbrev pub noSums : Ledger
@@ -92,39 +92,39 @@ noSums = record {
 -- it opens a record of its own from the sheet
 unfoldable pub start : (sheet : List ℕ) → Tally
 start sheet = record {
-  opening = sheetRecord sheet;
+  initial = sheetRecord sheet;
   own = withSums (sheetRecord sheet) noSums;
   sums = noSums;
-  held = endsOf sheet ∷ [];
+  held = boundariesOf sheet ∷ [];
   steps = [];
 }
 
 -- an accepted call moves its record by the rules, and adds to its sums
-unfoldable pub afterStep : Tally → (t : ℕ) → Tally
-afterStep T t =
+unfoldable pub countStep : Tally → (t : ℕ) → Tally
+countStep T t =
     let k = addStep (T .own) t (T .sums) in record {
-      opening = T .opening;
-      own = withSums (stepped (T .own) t) k;
+      initial = T .initial;
+      own = withSums (afterStep (T .own) t) k;
       sums = k;
       held = T .held;
       steps = record { before = T .own; time = t } ∷ T .steps;
     }
 
-unfoldable pub afterSettling : Tally → Tally
-afterSettling T =
+unfoldable pub countTransport : Tally → Tally
+countTransport T =
     let k = addMass (T .own) (T .sums) in record {
-      opening = T .opening;
-      own = withSums (transported (T .own) (T .own .ends)) k;
+      initial = T .initial;
+      own = withSums (afterTransport (T .own) (T .own .boundaries)) k;
       sums = k;
       held = T .held;
       steps = T .steps;
     }
 
-unfoldable pub afterSetting : Tally → List Boundary → Tally
-afterSetting T es =
+unfoldable pub countSetting : Tally → List Boundary → Tally
+countSetting T es =
     let k = addMass (T .own) (T .sums) in record {
-      opening = T .opening;
-      own = withSums (transported (T .own) es) k;
+      initial = T .initial;
+      own = withSums (afterTransport (T .own) es) k;
       sums = k;
       held = es ∷ T .held;
       steps = T .steps;
@@ -132,20 +132,20 @@ afterSetting T es =
 
 -- what an accepted call makes of the tally; a greatest-step call and a write change nothing, an accepted opening starts another list
 abbrev pub accepted : Tally → Call → Tally
-accepted T (stepBy t) = afterStep T t
-accepted T settle = afterSettling T
-accepted T (setEnds es) = afterSetting T es
-accepted T askGreatest = T
-accepted T (writeInto room) = T
-accepted T (reopen sheet) = start sheet
+accepted T (stepCall t) = countStep T t
+accepted T transportCall = countTransport T
+accepted T (boundariesCall es) = countSetting T es
+accepted T greatestCall = T
+accepted T (writeCall room) = T
+accepted T (openCall sheet) = start sheet
 
 -- a refused call changes nothing
-unfoldable pub unless : (refusal : ℕ) → (T accepted : Tally) → Tally
-unless n T U = cond (eqb n 0) U T
+unfoldable pub ifAccepted : (refusal : ℕ) → (accepted T : Tally) → Tally
+ifAccepted n U T = cond (eqb n 0) U T
 
 -- it reads each call's grounds for refusal on its own record
 unfoldable pub count : Tally → Call → Tally
-count T c = unless (refusalOf (T .own) c) T (accepted T c)
+count T c = ifAccepted (refusalOf (T .own) c) (accepted T c) T
 
 unfoldable pub run : Tally → List Call → Tally
 run T [] = T

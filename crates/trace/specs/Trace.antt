@@ -10,12 +10,12 @@ use lib.ListN.{length}
 use Rattle.reach.specs.Reach.{Reach, reachOf}
 use Rattle.reach.specs.declared.boundary.Boundary.{Boundary}
 use Rattle.reach.specs.declared.ledger.Ledger.{Ledger}
-use Rattle.transport.specs.declared.Answer.{Answer}
-use Rattle.stepping.specs.declared.Greatest.{Greatest}
-use Rattle.stepping.specs.declared.step.Stepped.{Stepped}
-use Rattle.sheet.specs.declared.opening.Opened.{Opened}
-use Rattle.writing.specs.declared.write.Written.{Written}
-use Rattle.tally.specs.Call.{Call, stepBy, settle, setEnds, askGreatest, writeInto, reopen, goesOn}
+use Rattle.transport.specs.declared.TransportAnswer.{TransportAnswer}
+use Rattle.stepping.specs.declared.GreatestAnswer.{GreatestAnswer}
+use Rattle.stepping.specs.declared.step.StepAnswer.{StepAnswer}
+use Rattle.sheet.specs.declared.opening.OpenAnswer.{OpenAnswer}
+use Rattle.writing.specs.declared.write.WriteAnswer.{WriteAnswer}
+use Rattle.tally.specs.Call.{Call, stepCall, transportCall, boundariesCall, greatestCall, writeCall, openCall, goesOn}
 use Rattle.tally.specs.Tally.{start, run}
 use Rattle.tally.specs.Holds.{Holds}
 use Rattle.stepping.proofs.step.step.Reads as step-reads
@@ -36,93 +36,93 @@ pub record Lent : Type 0 where
 
 -- the record that a call is given: the columns and X as they stand, ends and ledger as last handed back
 abbrev pub given : Lent → Reach → Reach
-given l s = reachOf (now (l .bed)) (now (l .depth)) (now (l .discharge)) (now (l .mass)) (now (l .base)) (now (l .carried)) (s .cellLength) (s .ends) (s .ledger)
+given l s = reachOf (now (l .bed)) (now (l .depth)) (now (l .discharge)) (now (l .mass)) (now (l .base)) (now (l .carried)) (s .cellLength) (s .boundaries) (s .ledger)
 
 -- in each link: the lent columns are those of s (`came`); the function answered r and left the columns with the values named here, as its
 -- contract says (`ensured`); and s' is what stands in the columns after it, with X and the ends and ledger that it handed back (`left`)
 
 -- a step of t
-pub record Steps (s : Reach) (t : ℕ) (s' : Reach) : Type 0 where
+pub record StepLink (s : Reach) (t : ℕ) (s' : Reach) : Type 0 where
   pub κs : Lfts 6
   pub l : Lent
   pub came : s ≡ given l s
-  pub r : Stepped
+  pub r : StepAnswer
   pub depth : List ℕ
   pub discharge : List ℤ
   pub mass : List ℕ
   pub base : List ℕ
   pub carried : List ℤ
   pub ensured : step-reads.Post κs
-      (l .bed, (l .depth, (l .discharge, (l .mass, (l .base, (l .carried, (s .cellLength, (s .ends, (s .ledger, (t, tt))))))))))
+      (l .bed, (l .depth, (l .discharge, (l .mass, (l .base, (l .carried, (s .cellLength, (s .boundaries, (s .ledger, (t, tt))))))))))
       r
-      (l .bed, (at-last (l .depth) depth, (at-last (l .discharge) discharge, (at-last (l .mass) mass, (at-last (l .base) base, (at-last (l .carried) carried, (s .cellLength, (s .ends, (s .ledger, (t, tt))))))))))
-  pub left : s' ≡ reachOf (now (l .bed)) depth discharge mass base carried (s .cellLength) (r .ends) (r .ledger)
+      (l .bed, (at-last (l .depth) depth, (at-last (l .discharge) discharge, (at-last (l .mass) mass, (at-last (l .base) base, (at-last (l .carried) carried, (s .cellLength, (s .boundaries, (s .ledger, (t, tt))))))))))
+  pub left : s' ≡ reachOf (now (l .bed)) depth discharge mass base carried (s .cellLength) (r .boundaries) (r .ledger)
 
 -- a settling
-pub record Settles (s s' : Reach) : Type 0 where
+pub record TransportLink (s s' : Reach) : Type 0 where
   pub κs : Lfts 6
   pub l : Lent
   pub came : s ≡ given l s
-  pub r : Answer
+  pub r : TransportAnswer
   pub mass : List ℕ
   pub base : List ℕ
   pub carried : List ℤ
   pub ensured : transport-reads.Post κs
-      (l .bed, (l .depth, (l .discharge, (l .mass, (l .base, (l .carried, (s .cellLength, (s .ends, (s .ledger, tt)))))))))
+      (l .bed, (l .depth, (l .discharge, (l .mass, (l .base, (l .carried, (s .cellLength, (s .boundaries, (s .ledger, tt)))))))))
       r
-      (l .bed, (l .depth, (l .discharge, (at-last (l .mass) mass, (at-last (l .base) base, (at-last (l .carried) carried, (s .cellLength, (s .ends, (s .ledger, tt)))))))))
-  pub left : s' ≡ reachOf (now (l .bed)) (now (l .depth)) (now (l .discharge)) mass base carried (s .cellLength) (r .ends) (r .ledger)
+      (l .bed, (l .depth, (l .discharge, (at-last (l .mass) mass, (at-last (l .base) base, (at-last (l .carried) carried, (s .cellLength, (s .boundaries, (s .ledger, tt)))))))))
+  pub left : s' ≡ reachOf (now (l .bed)) (now (l .depth)) (now (l .discharge)) mass base carried (s .cellLength) (r .boundaries) (r .ledger)
 
 -- an end setting, given a new pair
-pub record Sets (s : Reach) (es : List Boundary) (s' : Reach) : Type 0 where
+pub record BoundariesLink (s : Reach) (es : List Boundary) (s' : Reach) : Type 0 where
   pub κs : Lfts 6
   pub l : Lent
   pub came : s ≡ given l s
-  pub r : Answer
+  pub r : TransportAnswer
   pub mass : List ℕ
   pub base : List ℕ
   pub carried : List ℤ
   pub ensured : setting-reads.Post κs
-      (l .bed, (l .depth, (l .discharge, (l .mass, (l .base, (l .carried, (s .cellLength, (s .ends, (s .ledger, (es, tt))))))))))
+      (l .bed, (l .depth, (l .discharge, (l .mass, (l .base, (l .carried, (s .cellLength, (s .boundaries, (s .ledger, (es, tt))))))))))
       r
-      (l .bed, (l .depth, (l .discharge, (at-last (l .mass) mass, (at-last (l .base) base, (at-last (l .carried) carried, (s .cellLength, (s .ends, (s .ledger, (es, tt))))))))))
-  pub left : s' ≡ reachOf (now (l .bed)) (now (l .depth)) (now (l .discharge)) mass base carried (s .cellLength) (r .ends) (r .ledger)
+      (l .bed, (l .depth, (l .discharge, (at-last (l .mass) mass, (at-last (l .base) base, (at-last (l .carried) carried, (s .cellLength, (s .boundaries, (s .ledger, (es, tt))))))))))
+  pub left : s' ≡ reachOf (now (l .bed)) (now (l .depth)) (now (l .discharge)) mass base carried (s .cellLength) (r .boundaries) (r .ledger)
 
 -- a greatest-step call
-pub record Asks (s s' : Reach) : Type 0 where
+pub record GreatestLink (s s' : Reach) : Type 0 where
   pub κs : Lfts 6
   pub l : Lent
   pub came : s ≡ given l s
-  pub r : Greatest
+  pub r : GreatestAnswer
   pub ensured : greatest-reads.Post κs
-      (l .bed, (l .depth, (l .discharge, (l .mass, (l .base, (l .carried, (s .cellLength, (s .ends, (s .ledger, tt)))))))))
+      (l .bed, (l .depth, (l .discharge, (l .mass, (l .base, (l .carried, (s .cellLength, (s .boundaries, (s .ledger, tt)))))))))
       r
-      (l .bed, (l .depth, (l .discharge, (l .mass, (l .base, (l .carried, (s .cellLength, (s .ends, (s .ledger, tt)))))))))
-  pub left : s' ≡ reachOf (now (l .bed)) (now (l .depth)) (now (l .discharge)) (now (l .mass)) (now (l .base)) (now (l .carried)) (s .cellLength) (r .ends) (r .ledger)
+      (l .bed, (l .depth, (l .discharge, (l .mass, (l .base, (l .carried, (s .cellLength, (s .boundaries, (s .ledger, tt)))))))))
+  pub left : s' ≡ reachOf (now (l .bed)) (now (l .depth)) (now (l .discharge)) (now (l .mass)) (now (l .base)) (now (l .carried)) (s .cellLength) (r .boundaries) (r .ledger)
 
 -- a write into an output of `room` bytes, which is none of the columns
-pub record Writes (s : Reach) (room : ℕ) (s' : Reach) : Type 0 where
+pub record WriteLink (s : Reach) (room : ℕ) (s' : Reach) : Type 0 where
   pub κs : Lfts 7
   pub l : Lent
   pub came : s ≡ given l s
   pub out : RefT (List ℕ)
   pub long : room ≡ length (now out)
-  pub r : Written
+  pub r : WriteAnswer
   pub written : List ℕ
   pub ensured : writing-reads.Post κs
-      (l .bed, (l .depth, (l .discharge, (l .mass, (l .base, (l .carried, (s .cellLength, (s .ends, (s .ledger, (out, tt))))))))))
+      (l .bed, (l .depth, (l .discharge, (l .mass, (l .base, (l .carried, (s .cellLength, (s .boundaries, (s .ledger, (out, tt))))))))))
       r
-      (l .bed, (l .depth, (l .discharge, (l .mass, (l .base, (l .carried, (s .cellLength, (s .ends, (s .ledger, (at-last out written, tt))))))))))
-  pub left : s' ≡ reachOf (now (l .bed)) (now (l .depth)) (now (l .discharge)) (now (l .mass)) (now (l .base)) (now (l .carried)) (s .cellLength) (r .ends) (r .ledger)
+      (l .bed, (l .depth, (l .discharge, (l .mass, (l .base, (l .carried, (s .cellLength, (s .boundaries, (s .ledger, (at-last out written, tt))))))))))
+  pub left : s' ≡ reachOf (now (l .bed)) (now (l .depth)) (now (l .discharge)) (now (l .mass)) (now (l .base)) (now (l .carried)) (s .cellLength) (r .boundaries) (r .ledger)
 
 -- an opening: 'a refused opening in between leaves the columns, and the list goes on with the ends and book it had'
-pub record Opens (s : Reach) (sheet : List ℕ) (s' : Reach) : Type 0 where
+pub record OpenLink (s : Reach) (sheet : List ℕ) (s' : Reach) : Type 0 where
   pub κs : Lfts 7
   pub bytes : RefT (List ℕ)
   pub fed : sheet ≡ now bytes
   pub l : Lent
   pub came : s ≡ given l s
-  pub r : Opened
+  pub r : OpenAnswer
   pub bed : List ℤ
   pub depth : List ℕ
   pub discharge : List ℤ
@@ -136,12 +136,12 @@ pub record Opens (s : Reach) (sheet : List ℕ) (s' : Reach) : Type 0 where
   pub left : s' ≡ goesOn s r bed depth discharge mass base carried
 
 abbrev pub Link : Reach → Call → Reach → Type 0
-Link s (stepBy t) s' = Steps s t s'
-Link s settle s' = Settles s s'
-Link s (setEnds es) s' = Sets s es s'
-Link s askGreatest s' = Asks s s'
-Link s (writeInto room) s' = Writes s room s'
-Link s (reopen sheet) s' = Opens s sheet s'
+Link s (stepCall t) s' = StepLink s t s'
+Link s transportCall s' = TransportLink s s'
+Link s (boundariesCall es) s' = BoundariesLink s es s'
+Link s greatestCall s' = GreatestLink s s'
+Link s (writeCall room) s' = WriteLink s room s'
+Link s (openCall sheet) s' = OpenLink s sheet s'
 
 -- 'each call getting the record, ends and book as the last left them'
 pub data Chain : Reach → List Call → Reach → Type 0 where
@@ -154,7 +154,7 @@ pub data Chain : Reach → List Call → Reach → Type 0 where
 abbrev pub Demand3 : Type 0
 Demand3 =
     (sheet : List ℕ) (cs : List Call) (before opened after : Reach) →
-    (first : Opens before sheet opened) →
+    (first : OpenLink before sheet opened) →
     first .r .refusal ≡ 0 →
     Chain opened cs after →
     Holds (run (start sheet) cs) after
@@ -164,7 +164,7 @@ Demand3 =
 pub record AsksNothing : Type 0 where
   pub step : (κs : Lfts 6) (l : Lent) (X : ℕ) (es : List Boundary) (k : Ledger) (t : ℕ)
       → step-reads.Pre κs (l .bed, (l .depth, (l .discharge, (l .mass, (l .base, (l .carried, (X, (es, (k, (t, tt))))))))))
-  pub settling : (κs : Lfts 6) (l : Lent) (X : ℕ) (es : List Boundary) (k : Ledger)
+  pub transporting : (κs : Lfts 6) (l : Lent) (X : ℕ) (es : List Boundary) (k : Ledger)
       → transport-reads.Pre κs (l .bed, (l .depth, (l .discharge, (l .mass, (l .base, (l .carried, (X, (es, (k, tt)))))))))
   pub end-setting : (κs : Lfts 6) (l : Lent) (X : ℕ) (es : List Boundary) (k : Ledger) (new : List Boundary)
       → setting-reads.Pre κs (l .bed, (l .depth, (l .discharge, (l .mass, (l .base, (l .carried, (X, (es, (k, (new, tt))))))))))

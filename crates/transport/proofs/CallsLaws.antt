@@ -14,22 +14,22 @@ use Rattle.numbers.specs.Signed.{positive}
 use Rattle.numbers.proofs.IndexLaws.{all-of, getD-tabulate, length-tabulate}
 use Rattle.numbers.proofs.SignedLaws.{abs-parts}
 use Rattle.flux.specs.Limits.{depthMost, concentrationMost}
-use Rattle.mass.specs.Transport.{Columns, columns, outRight, outLeft, rightwards, leftwards, movedCell, movedMass}
+use Rattle.mass.specs.Transport.{MassColumns, massColumns, outRight, outLeft, rightwards, leftwards, movedCell, movedMass}
 use Rattle.mass.specs.Ranges.{ReadyAt, Ready, massMost}
 use Rattle.mass.proofs.TransportLaws.{conserved, moved-lo, moved-hi, inLeft, inRight, leftwards-small, rightwards-small, leftwards-end}
 use Rattle.reach.specs.Limits.{wall}
-use Rattle.reach.specs.Reach.{Reach, cells, depthAt, baseAt, massAt, carriedAt, leftEnd, rightEnd}
+use Rattle.reach.specs.Reach.{Reach, cells, depthAt, baseAt, massAt, carriedAt, leftBoundary, rightBoundary}
 use Rattle.reach.specs.Grounds.{firstRefusal, recordGrounds, boundariesFit, ledgerFits, passOr}
 use Rattle.reach.specs.Outcome.{Outcome, outcome}
-use Rattle.reach.specs.Balance.{massHeld, massIn, massOut, MassBalanced, CellsWithin, EndWithin, EndsWithin}
+use Rattle.reach.specs.Balance.{massHeld, massIn, massOut, MassBalanced, CellsWithin, BoundaryWithin, BoundariesWithin}
 use Rattle.reach.specs.declared.boundary.Boundary.{Boundary}
 use Rattle.reach.specs.declared.ledger.Ledger.{Ledger}
 use Rattle.reach.specs.declared.refusal.Check.{Check}
 use Rattle.reach.specs.declared.refusal.Check.the-variants.{Pass, Refused}
 use Rattle.reach.proofs.GroundsLaws.{further, no-further, last-one, numbered, refused-number}
 use Rattle.reach.proofs.Sound.{Sound, CellSound, CarriedSound, sound, given-fits, stands, boundary-sound}
-use Rattle.transport.specs.Calls.{enteringLeft, enteringRight, columnsOf, withMass, ledgerWith, transportLedger, transported, transportGrounds, setBoundaries, pickEntered}
-use Rattle.transport.specs.Ranges.{columnsWith, Crosses, Small}
+use Rattle.transport.specs.Calls.{enteringLeft, enteringRight, massColumnsOf, withMass, ledgerWith, transportLedger, afterTransport, transportGrounds, setBoundaries, pickEntered}
+use Rattle.transport.specs.Ranges.{massColumnsWith, BoundaryMassOf, Small}
 use Rattle.transport.specs.declared.Entered.{Entered}
 
 -- ---- what a sound record owes the functions
@@ -57,7 +57,7 @@ module _ (s : Reach) (k : Sound s) where
   inside : (i : ℕ) → i < length (s .mass) → i < cells s
   inside i l = let e = k .masses in omega arith
 
-  pub ready : Ready (columnsOf s)
+  pub ready : Ready (massColumnsOf s)
   ready = record {
     each = λ i. record {
       bases = omega (arith, k .bases, k .masses);
@@ -73,22 +73,22 @@ module _ (s : Reach) (k : Sound s) where
   }
 
   -- the columns with the concentrations, as the code has them
-  pub columns-with : columnsWith (s .mass) (s .base) (s .carried) (s .ends) ≡ columnsOf s
+  pub columns-with : massColumnsWith (s .mass) (s .base) (s .carried) (s .boundaries) ≡ massColumnsOf s
   unfolding enteringLeft enteringRight
   columns-with =
-      ap (λ (n : ℕ). columns (s .mass) (s .base) (s .carried) (positive (carriedAt s 0) * leftEnd (s .ends) .concentration) (positive (negℤ (carriedAt s n)) * rightEnd (s .ends) .concentration))
+      ap (λ (n : ℕ). massColumns (s .mass) (s .base) (s .carried) (positive (carriedAt s 0) * leftBoundary (s .boundaries) .concentration) (positive (negℤ (carriedAt s n)) * rightBoundary (s .boundaries) .concentration))
       (k .masses)
 
-  pub small : (a b c d : ℕ) → Crosses (columnsOf s) a b c d → Small a b c d
+  pub small : (a b c d : ℕ) → BoundaryMassOf (massColumnsOf s) a b c d → Small a b c d
   small a b c d x =
       let n = length (s .mass) in record {
         left-in = omega (arith, x .left-in, entering-left);
-        left-out = omega (arith, x .left-out, leftwards-small (columnsOf s) 0 (ready .each 0) (omega arith));
+        left-out = omega (arith, x .left-out, leftwards-small (massColumnsOf s) 0 (ready .each 0) (omega arith));
         right-in = omega (arith, x .right-in, entering-right);
-        right-out = omega (arith, x .right-out, rightwards-small (columnsOf s) ready n (omega arith));
+        right-out = omega (arith, x .right-out, rightwards-small (massColumnsOf s) ready n (omega arith));
       }
 
-  pub ledger-is : (a b c d : ℕ) → Crosses (columnsOf s) a b c d → ledgerWith (s .ledger) a b c d ≡ transportLedger s
+  pub ledger-is : (a b c d : ℕ) → BoundaryMassOf (massColumnsOf s) a b c d → ledgerWith (s .ledger) a b c d ≡ transportLedger s
   unfolding transportLedger
   ledger-is a b c d x = rw (x .left-in, x .left-out, x .right-in, x .right-out, k .masses) refl
 
@@ -101,7 +101,7 @@ all-numbered s es = refl
 module _ (s : Reach) (es : List Boundary) where
   pub stopped : (n : ℕ) → firstRefusal (recordGrounds s es) ≡ Refused n → setBoundaries s es ≡ record { refusal = n; reach = s }
   unfolding setBoundaries
-  stopped n e = ap (λ (k : Check). outcome k s (transported s es)) (no-further (recordGrounds s es) _ n e)
+  stopped n e = ap (λ (k : Check). outcome k s (afterTransport s es)) (no-further (recordGrounds s es) _ n e)
 
   module _ (e : firstRefusal (recordGrounds s es) ≡ Pass) where
     at-last : (t : Bool) → ledgerFits (transportLedger s) ≡ t → firstRefusal (transportGrounds s es) ≡ passOr 13 t
@@ -109,16 +109,16 @@ module _ (s : Reach) (es : List Boundary) where
 
     pub full : ledgerFits (transportLedger s) ≡ false → setBoundaries s es ≡ record { refusal = 13; reach = s }
     unfolding setBoundaries
-    full f = ap (λ (k : Check). outcome k s (transported s es)) (at-last false f)
+    full f = ap (λ (k : Check). outcome k s (afterTransport s es)) (at-last false f)
 
-    pub accepted : ledgerFits (transportLedger s) ≡ true → setBoundaries s es ≡ record { refusal = 0; reach = transported s es }
+    pub accepted : ledgerFits (transportLedger s) ≡ true → setBoundaries s es ≡ record { refusal = 0; reach = afterTransport s es }
     unfolding setBoundaries
-    accepted f = ap (λ (k : Check). outcome k s (transported s es)) (at-last true f)
+    accepted f = ap (λ (k : Check). outcome k s (afterTransport s es)) (at-last true f)
 
   -- every statement about the outcome, by the three ways it can go
   pub by-outcome : (P : Outcome → Type 0)
       → ((n : ℕ) → 0 < n → P (record { refusal = n; reach = s }))
-      → (Sound s → boundariesFit es ≡ true → ledgerFits (transportLedger s) ≡ true → P (record { refusal = 0; reach = transported s es }))
+      → (Sound s → boundariesFit es ≡ true → ledgerFits (transportLedger s) ≡ true → P (record { refusal = 0; reach = afterTransport s es }))
       → P (setBoundaries s es)
   by-outcome P stays moves = go (firstRefusal (recordGrounds s es)) refl (ledgerFits (transportLedger s)) refl
     where
@@ -132,24 +132,24 @@ pub entered-refused : (t : Bool) (k : Ledger) (e : Entered) (x : ℕ) → e ≡ 
 entered-refused true k e x p q = cc
 entered-refused false k e x p q = refl
 
-pub entered-booked : (t : Bool) (k : Ledger) (e : Entered) (x : Ledger) → e ≡ pickEntered t k → e ≡ Entered.Booked x → (t ≡ true) × (x ≡ k)
-entered-booked true k e x p q = (refl, cc)
-entered-booked false k e x p q = (cc, cc)
+pub entered-accepted : (t : Bool) (k : Ledger) (e : Entered) (x : Ledger) → e ≡ pickEntered t k → e ≡ Entered.Accepted x → (t ≡ true) × (x ≡ k)
+entered-accepted true k e x p q = (refl, cc)
+entered-accepted false k e x p q = (cc, cc)
 
 -- ---- mass
 
 module _ (s : Reach) (k : Sound s) (es : List Boundary) where
-  covered : (i : ℕ) → i < length (s .mass) → outRight (columnsOf s) i + outLeft (columnsOf s) i ≤ baseAt s i
+  covered : (i : ℕ) → i < length (s .mass) → outRight (massColumnsOf s) i + outLeft (massColumnsOf s) i ≤ baseAt s i
   covered i l = ready s k .each i .giving l .covered
 
-  first-in : rightwards (columnsOf s) 0 ≡ enteringLeft s
+  first-in : rightwards (massColumnsOf s) 0 ≡ enteringLeft s
   unfolding rightwards
   first-in = refl
 
-  pub transported-balanced : MassBalanced s (transported s es)
-  unfolding MassBalanced massHeld massIn massOut transported transportLedger ledgerWith withMass
-  transported-balanced =
-      let x = columnsOf s in
+  pub transport-balanced : MassBalanced s (afterTransport s es)
+  unfolding MassBalanced massHeld massIn massOut afterTransport transportLedger ledgerWith withMass
+  transport-balanced =
+      let x = massColumnsOf s in
       let n = ap (rightwards x) (k .masses) in
       let l = leftwards-end x (length (s .mass)) (omega arith) in
       omega (arith, first-in, conserved x covered)
@@ -164,63 +164,63 @@ module _ (s : Reach) (k : Sound s) (es : List Boundary) where
       go true p = f (shut (eqb-true (e .kind) wall p))
       go false p = g (eqb-false (e .kind) wall p)
 
-  enters-lo : (lo hi : ℕ) (e : Boundary) (c : ℕ) → EndWithin lo hi e → (e .kind ≡ wall → c ≡ 0) → lo * c ≤ c * e .concentration
+  enters-lo : (lo hi : ℕ) (e : Boundary) (c : ℕ) → BoundaryWithin lo hi e → (e .kind ≡ wall → c ≡ 0) → lo * c ≤ c * e .concentration
   enters-lo lo hi e c w shut =
       not-wall e c shut
       (λ z. rw z (omega arith))
       (λ n. omega (arith, mul-le-mul-left c (w .above n)))
 
-  enters-hi : (lo hi : ℕ) (e : Boundary) (c : ℕ) → EndWithin lo hi e → (e .kind ≡ wall → c ≡ 0) → c * e .concentration ≤ hi * c
+  enters-hi : (lo hi : ℕ) (e : Boundary) (c : ℕ) → BoundaryWithin lo hi e → (e .kind ≡ wall → c ≡ 0) → c * e .concentration ≤ hi * c
   enters-hi lo hi e c w shut =
       not-wall e c shut
       (λ z. rw z (omega arith))
       (λ n. omega (arith, mul-le-mul-left c (w .below n)))
 
-  shut-left : leftEnd (s .ends) .kind ≡ wall → positive (carriedAt s 0) ≡ 0
+  shut-left : leftBoundary (s .boundaries) .kind ≡ wall → positive (carriedAt s 0) ≡ 0
   shut-left w = ap positive (k .shutLeft w)
 
-  shut-right : rightEnd (s .ends) .kind ≡ wall → positive (negℤ (carriedAt s (cells s))) ≡ 0
+  shut-right : rightBoundary (s .boundaries) .kind ≡ wall → positive (negℤ (carriedAt s (cells s))) ≡ 0
   shut-right w = ap (λ (z : ℤ). positive (negℤ z)) (k .shutRight w)
 
   balance-at : (i : ℕ) → i < length (s .mass)
-      → depthAt s i + (outRight (columnsOf s) i + outLeft (columnsOf s) i) ≡ baseAt s i + inLeft (columnsOf s) i + inRight (columnsOf s) i
+      → depthAt s i + (outRight (massColumnsOf s) i + outLeft (massColumnsOf s) i) ≡ baseAt s i + inLeft (massColumnsOf s) i + inRight (massColumnsOf s) i
   balance-at i l = omega (arith, k .water i (inside s k i l) .balance)
 
   -- what is measured of a cell afterwards is its new mass against its depth
-  moved-at : (i : ℕ) → i < cells s → massAt (transported s es) i ≡ movedCell (columnsOf s) i
-  unfolding transported movedMass
-  moved-at i l = getD-tabulate (length (s .mass)) (movedCell (columnsOf s)) i 0 (omega (arith, k .masses))
+  moved-at : (i : ℕ) → i < cells s → massAt (afterTransport s es) i ≡ movedCell (massColumnsOf s) i
+  unfolding afterTransport movedMass
+  moved-at i l = getD-tabulate (length (s .mass)) (movedCell (massColumnsOf s)) i 0 (omega (arith, k .masses))
 
-  moved-long : length (movedMass (columnsOf s)) ≡ cells s
+  moved-long : length (movedMass (massColumnsOf s)) ≡ cells s
   unfolding movedMass
-  moved-long = length-tabulate (length (s .mass)) (movedCell (columnsOf s)) ∙ k .masses
+  moved-long = length-tabulate (length (s .mass)) (movedCell (massColumnsOf s)) ∙ k .masses
 
-  cells-same : cells (transported s es) ≡ cells s
-  unfolding transported
+  cells-same : cells (afterTransport s es) ≡ cells s
+  unfolding afterTransport
   cells-same = refl
 
-  pub base-at : (i : ℕ) → baseAt (transported s es) i ≡ depthAt s i
-  unfolding transported
+  pub base-at : (i : ℕ) → baseAt (afterTransport s es) i ≡ depthAt s i
+  unfolding afterTransport
   base-at i = refl
 
-  pub transported-within : (lo hi : ℕ) → CellsWithin lo hi s → EndsWithin lo hi (s .ends) → CellsWithin lo hi (transported s es)
+  pub transport-within : (lo hi : ℕ) → CellsWithin lo hi s → BoundariesWithin lo hi (s .boundaries) → CellsWithin lo hi (afterTransport s es)
   unfolding enteringLeft enteringRight
-  transported-within lo hi w e =
-      let x = columnsOf s in
+  transport-within lo hi w e =
+      let x = massColumnsOf s in
       let last = ap (λ (n : ℕ). positive (negℤ (carriedAt s n))) (k .masses) in record {
         above = λ i l.
             let j : i < length (s .mass) = omega (arith, k .masses, cells-same) in
             rw (moved-at i (inside s k i j), base-at i)
             (moved-lo x covered lo (λ a b. w .above a (inside s k a b))
-            (enters-lo lo hi (leftEnd (s .ends)) (positive (carriedAt s 0)) (e .left) shut-left)
-            (rw last (enters-lo lo hi (rightEnd (s .ends)) (positive (negℤ (carriedAt s (cells s)))) (e .right) shut-right))
+            (enters-lo lo hi (leftBoundary (s .boundaries)) (positive (carriedAt s 0)) (e .left) shut-left)
+            (rw last (enters-lo lo hi (rightBoundary (s .boundaries)) (positive (negℤ (carriedAt s (cells s)))) (e .right) shut-right))
             i (depthAt s i) j (balance-at i j));
         below = λ i l.
             let j : i < length (s .mass) = omega (arith, k .masses, cells-same) in
             rw (moved-at i (inside s k i j), base-at i)
             (moved-hi x covered hi (λ a b. w .below a (inside s k a b))
-            (enters-hi lo hi (leftEnd (s .ends)) (positive (carriedAt s 0)) (e .left) shut-left)
-            (rw last (enters-hi lo hi (rightEnd (s .ends)) (positive (negℤ (carriedAt s (cells s)))) (e .right) shut-right))
+            (enters-hi lo hi (leftBoundary (s .boundaries)) (positive (carriedAt s 0)) (e .left) shut-left)
+            (rw last (enters-hi lo hi (rightBoundary (s .boundaries)) (positive (negℤ (carriedAt s (cells s)))) (e .right) shut-right))
             i (depthAt s i) j (balance-at i j));
       }
 
@@ -230,24 +230,24 @@ module _ (s : Reach) (k : Sound s) (es : List Boundary) where
   in-range : CellsWithin 0 concentrationMost s
   in-range = record { above = λ i l. omega arith; below = λ i l. k .cell i l .mass }
 
-  ends-in-range : EndsWithin 0 concentrationMost (s .ends)
-  ends-in-range = record {
+  boundaries-in-range : BoundariesWithin 0 concentrationMost (s .boundaries)
+  boundaries-in-range = record {
     left = record { above = λ n. omega arith; below = λ n. k .left .concentration };
     right = record { above = λ n. omega arith; below = λ n. k .right .concentration };
   }
 
-  pub carried-zero : (i : ℕ) → i < length (s .carried) → carriedAt (transported s es) i ≡ pos 0
-  unfolding transported
+  pub carried-zero : (i : ℕ) → i < length (s .carried) → carriedAt (afterTransport s es) i ≡ pos 0
+  unfolding afterTransport
   carried-zero i l = getD-replicate (length (s .carried)) i (pos 0) (pos 0) l
 
   still : (h : ℕ) (l r : ℤ) → l ≡ pos 0 → r ≡ pos 0 → CarriedSound h h l r
   still h l r p q = rw (p, q) (record { left = omega arith; right = omega arith; balance = omega arith; covered = omega arith })
 
-  pub transported-sound : boundariesFit es ≡ true → ledgerFits (transportLedger s) ≡ true → Sound (transported s es)
-  unfolding transported boundariesFit
-  transported-sound fits ledger =
-      let t = transported-within 0 concentrationMost in-range ends-in-range in
-      let ends = all-of _ fits in record {
+  pub transport-sound : boundariesFit es ≡ true → ledgerFits (transportLedger s) ≡ true → Sound (afterTransport s es)
+  unfolding afterTransport boundariesFit
+  transport-sound fits ledger =
+      let t = transport-within 0 concentrationMost in-range boundaries-in-range in
+      let boundaries = all-of _ fits in record {
         some = k .some;
         few = k .few;
         depths = k .depths;
@@ -257,8 +257,8 @@ module _ (s : Reach) (k : Sound s) (es : List Boundary) where
         interfaces = length-replicate (length (s .carried)) (pos 0) ∙ k .interfaces;
         lengthLeast = k .lengthLeast;
         lengthMost = k .lengthMost;
-        left = boundary-sound (leftEnd es) (ends 0);
-        right = boundary-sound (rightEnd es) (ends 1);
+        left = boundary-sound (leftBoundary es) (boundaries 0);
+        right = boundary-sound (rightBoundary es) (boundaries 1);
         boundaries = fits;
         cell = λ i l. record {
           bed = k .cell i l .bed;
@@ -277,11 +277,11 @@ module _ (s : Reach) (k : Sound s) (es : List Boundary) where
 
 pub balanced : (s : Reach) (es : List Boundary) → MassBalanced s (setBoundaries s es .reach)
 unfolding MassBalanced
-balanced s es = by-outcome s es (λ o. MassBalanced s (o .reach)) (λ n p. omega arith) (λ k f l. transported-balanced s k es)
+balanced s es = by-outcome s es (λ o. MassBalanced s (o .reach)) (λ n p. omega arith) (λ k f l. transport-balanced s k es)
 
-pub within : (s : Reach) (es : List Boundary) (lo hi : ℕ) → CellsWithin lo hi s → EndsWithin lo hi (s .ends) → CellsWithin lo hi (setBoundaries s es .reach)
+pub within : (s : Reach) (es : List Boundary) (lo hi : ℕ) → CellsWithin lo hi s → BoundariesWithin lo hi (s .boundaries) → CellsWithin lo hi (setBoundaries s es .reach)
 within s es lo hi w e =
-    by-outcome s es (λ o. CellsWithin lo hi (o .reach)) (λ n p. w) (λ k f l. transported-within s k es lo hi w e)
+    by-outcome s es (λ o. CellsWithin lo hi (o .reach)) (λ n p. w) (λ k f l. transport-within s k es lo hi w e)
 
 -- an accepted call leaves a record that stands grounds 4 to 9 again, whatever pair it is given next
 pub stands-again : (s : Reach) (es gs : List Boundary) → setBoundaries s es .refusal ≡ 0 → boundariesFit gs ≡ true
@@ -289,5 +289,5 @@ pub stands-again : (s : Reach) (es gs : List Boundary) → setBoundaries s es .r
 stands-again s es gs e g =
     by-outcome s es (λ o. o .refusal ≡ 0 → firstRefusal (recordGrounds (o .reach) gs) ≡ Pass)
     (λ n p z. absurd (omega arith))
-    (λ k f l z. stands (transported s es) gs (transported-sound s k es f l) g)
+    (λ k f l z. stands (afterTransport s es) gs (transport-sound s k es f l) g)
     e

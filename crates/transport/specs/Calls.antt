@@ -6,25 +6,25 @@ use Prim.Native.Nat.{ℕ, _+_, _*_}
 use lib.IntN.{ℤ, pos, negℤ}
 use lib.ListN.{length, replicate}
 use Rattle.numbers.specs.Signed.{positive}
-use Rattle.mass.specs.Transport.{Columns, columns, rightwards, leftwards, movedMass}
-use Rattle.reach.specs.Reach.{Reach, cells, carriedAt, leftEnd, rightEnd}
+use Rattle.mass.specs.Transport.{MassColumns, massColumns, rightwards, leftwards, movedMass}
+use Rattle.reach.specs.Reach.{Reach, cells, carriedAt, leftBoundary, rightBoundary}
 use Rattle.reach.specs.Grounds.{Ground, ground, firstRefusal, ledgerFits, recordGrounds}
 use Rattle.reach.specs.Outcome.{Outcome, outcome}
 use Rattle.reach.specs.declared.boundary.Boundary.{Boundary}
 use Rattle.reach.specs.declared.ledger.Totals.{Totals}
 use Rattle.reach.specs.declared.ledger.Ledger.{Ledger}
-use Rattle.transport.specs.declared.Answer.{Answer}
+use Rattle.transport.specs.declared.TransportAnswer.{TransportAnswer}
 use Rattle.transport.specs.declared.Entered.{Entered}
 
 -- water entering at an end brings its amount times that end's concentration
 unfoldable pub enteringLeft : Reach → ℕ
-enteringLeft s = positive (carriedAt s 0) * leftEnd (s .ends) .concentration
+enteringLeft s = positive (carriedAt s 0) * leftBoundary (s .boundaries) .concentration
 
 unfoldable pub enteringRight : Reach → ℕ
-enteringRight s = positive (negℤ (carriedAt s (cells s))) * rightEnd (s .ends) .concentration
+enteringRight s = positive (negℤ (carriedAt s (cells s))) * rightBoundary (s .boundaries) .concentration
 
-abbrev pub columnsOf : Reach → Columns
-columnsOf s = columns (s .mass) (s .base) (s .carried) (enteringLeft s) (enteringRight s)
+abbrev pub massColumnsOf : Reach → MassColumns
+massColumnsOf s = massColumns (s .mass) (s .base) (s .carried) (enteringLeft s) (enteringRight s)
 
 -- totals with mass added
 unfoldable pub withMass : Totals → (gained lost : ℕ) → Totals
@@ -38,19 +38,19 @@ ledgerWith k leftIn leftOut rightIn rightOut = record { left = withMass (k .left
 -- end mass goes into the ledger: in, what enters; out, the first cell's left share and the last cell's right share
 unfoldable pub transportLedger : Reach → Ledger
 transportLedger s =
-    ledgerWith (s .ledger) (enteringLeft s) (leftwards (columnsOf s) 0) (enteringRight s) (rightwards (columnsOf s) (cells s))
+    ledgerWith (s .ledger) (enteringLeft s) (leftwards (massColumnsOf s) 0) (enteringRight s) (rightwards (massColumnsOf s) (cells s))
 
 -- shares move, b becomes h, c becomes 0; the pair es is held from then on
-unfoldable pub transported : Reach → List Boundary → Reach
-transported s es = record {
+unfoldable pub afterTransport : Reach → List Boundary → Reach
+afterTransport s es = record {
   bed = s .bed;
   depth = s .depth;
   discharge = s .discharge;
-  mass = movedMass (columnsOf s);
+  mass = movedMass (massColumnsOf s);
   base = s .depth;
   carried = replicate (length (s .carried)) (pos 0);
   cellLength = s .cellLength;
-  ends = es;
+  boundaries = es;
   ledger = transportLedger s;
 }
 
@@ -60,25 +60,25 @@ transportGrounds s es = recordGrounds s es ++ (ground 13 (ledgerFits (transportL
 
 -- setting boundaries gives the new pair, and transports first under the old one
 unfoldable pub setBoundaries : Reach → List Boundary → Outcome
-setBoundaries s es = outcome (firstRefusal (transportGrounds s es)) s (transported s es)
+setBoundaries s es = outcome (firstRefusal (transportGrounds s es)) s (afterTransport s es)
 
 -- a transport by itself holds the pair that it has
 unfoldable pub transport : Reach → Outcome
-transport s = setBoundaries s (s .ends)
+transport s = setBoundaries s (s .boundaries)
 
 -- a call came out as o says: every field of its answer, and every column that it may write
-pub record CameTo (o : Outcome) (r : Answer) (mass base : List ℕ) (carried : List ℤ) : Type 0 where
+pub record CameTo (o : Outcome) (r : TransportAnswer) (mass base : List ℕ) (carried : List ℤ) : Type 0 where
   pub refusal-is : r .refusal ≡ o .refusal
-  pub ends-are : r .ends ≡ o .reach .ends
+  pub boundaries-are : r .boundaries ≡ o .reach .boundaries
   pub ledger-is : r .ledger ≡ o .reach .ledger
   pub mass-is : mass ≡ o .reach .mass
   pub base-is : base ≡ o .reach .base
   pub carried-is : carried ≡ o .reach .carried
 
-abbrev pub answer : ℕ → List Boundary → Ledger → Answer
-answer n es k = record { refusal = n; ends = es; ledger = k }
+abbrev pub answer : ℕ → List Boundary → Ledger → TransportAnswer
+answer n es k = record { refusal = n; boundaries = es; ledger = k }
 
 -- what entering amounts into a ledger answers: the new ledger, or a refusal by 13
 abbrev pub pickEntered : Bool → Ledger → Entered
-pickEntered true k = Entered.Booked k
+pickEntered true k = Entered.Accepted k
 pickEntered false k = Entered.Refused 13

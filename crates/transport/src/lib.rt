@@ -4,13 +4,13 @@ ghost use mathlib.Core.Bool.{true};
 ghost use Prim.Native.Nat.{_+_, _≤_};
 ghost use lib.IntN.{pos};
 ghost use lib.ListN.{length, replicate};
-ghost use Rattle.mass.specs.Transport.{columns, movedMass};
+ghost use Rattle.mass.specs.Transport.{massColumns, movedMass};
 ghost use Rattle.mass.specs.Ranges.{Ready, massMost};
 ghost use Rattle.reach.specs.Limits.{totalMost};
 ghost use Rattle.reach.specs.Reach.{reachOf};
 ghost use Rattle.reach.specs.Grounds.{ledgerFits, numberOf};
 ghost use Rattle.transport.specs.Calls.{withMass, ledgerWith, pickEntered, answer, setBoundaries, transport as transportOf, CameTo};
-ghost use Rattle.transport.specs.Ranges.{columnsWith, Crosses, Small};
+ghost use Rattle.transport.specs.Ranges.{massColumnsWith, BoundaryMassOf, Small};
 use mass::leaving;
 use mass::move_mass;
 use numbers::columns::clear_column;
@@ -27,31 +27,31 @@ use reach::refusal::Check;
 // What a call on a record hands back: 0 or the number of its refusal, the boundaries held from now on, and the ledger.
 // A refused call hands the boundaries and the ledger back as they came.
 #[repr(C)]
-pub struct Answer {
+pub struct TransportAnswer {
     pub refusal: u32,
-    pub ends: [Boundary; 2],
+    pub boundaries: [Boundary; 2],
     pub ledger: Ledger,
 }
 
-fn refused(k: Check, ends: [Boundary; 2], ledger: Ledger) -> Answer
-    ensures { λ r. ⌜ r ≡ answer (numberOf k) ends ledger ⌝ }
+fn refused(k: Check, boundaries: [Boundary; 2], ledger: Ledger) -> TransportAnswer
+    ensures { λ r. ⌜ r ≡ answer (numberOf k) boundaries ledger ⌝ }
 {
     let Check::Refused(n) = k else {
-        return Answer {
+        return TransportAnswer {
             refusal: 0,
-            ends,
+            boundaries,
             ledger,
         };
     };
-    Answer {
+    TransportAnswer {
         refusal: n,
-        ends,
+        boundaries,
         ledger,
     }
 }
 
 // The mass that crosses both boundaries
-pub struct Crossed {
+pub struct BoundaryMass {
     pub left_in: u64,
     pub left_out: u64,
     pub right_in: u64,
@@ -59,17 +59,22 @@ pub struct Crossed {
 }
 
 // What enters is the water that came in times the boundary's concentration; what leaves are shares of the first and the last cell.
-pub fn crossed_of(m: &[u64], b: &[u64], c: &[i64], ends: [Boundary; 2]) -> Crossed
-    requires { ⌜ Ready (columnsWith (now m) (now b) (now c) ends) ⌝ }
-    requires { ⌜ 1 ≤ length (now m) ⌝ }
-    ensures { λ r. ⌜ Crosses (columnsWith (now (m .entry)) (now (b .entry)) (now (c .entry)) ends) (r .«left_in») (r .«left_out») (r .«right_in») (r .«right_out») ⌝ }
+pub fn boundary_mass_of(
+    mass: &[u64],
+    base: &[u64],
+    carried: &[i64],
+    boundaries: [Boundary; 2],
+) -> BoundaryMass
+    requires { ⌜ Ready (massColumnsWith (now mass) (now base) (now carried) boundaries) ⌝ }
+    requires { ⌜ 1 ≤ length (now mass) ⌝ }
+    ensures { λ r. ⌜ BoundaryMassOf (massColumnsWith (now (mass .entry)) (now (base .entry)) (now (carried .entry)) boundaries) (r .«left_in») (r .«left_out») (r .«right_in») (r .«right_out») ⌝ }
 {
-    let n = m.len();
-    let left_in = right_part(c[0]) * ends[0].concentration;
-    let right_in = left_part(c[n]) * ends[1].concentration;
-    let first = leaving(m, b, c, right_in, 0);
-    let last = leaving(m, b, c, right_in, n - 1);
-    Crossed {
+    let n = mass.len();
+    let left_in = right_part(carried[0]) * boundaries[0].concentration;
+    let right_in = left_part(carried[n]) * boundaries[1].concentration;
+    let first = leaving(mass, base, carried, right_in, 0);
+    let last = leaving(mass, base, carried, right_in, n - 1);
+    BoundaryMass {
         left_in,
         left_out: first.left,
         right_in,
@@ -91,11 +96,11 @@ pub fn with_mass(t: Totals, gained: u64, lost: u64) -> Totals
 
 // The ledger after a transport, or ground 13
 pub enum Entered {
-    Booked(Ledger),
+    Accepted(Ledger),
     Refused(u32),
 }
 
-pub fn enter(k: Ledger, x: Crossed) -> Entered
+pub fn enter(k: Ledger, x: BoundaryMass) -> Entered
     requires { ⌜ (ledgerFits k ≡ true) × Small (x .«left_in») (x .«left_out») (x .«right_in») (x .«right_out») ⌝ }
     ensures { λ r. ⌜ r ≡ pickEntered (ledgerFits (ledgerWith k (x .«left_in») (x .«left_out») (x .«right_in») (x .«right_out»))) (ledgerWith k (x .«left_in») (x .«left_out») (x .«right_in») (x .«right_out»)) ⌝ }
 {
@@ -108,72 +113,108 @@ pub fn enter(k: Ledger, x: Crossed) -> Entered
         right: next_right,
     };
     if ledger_fits(next) {
-        return Entered::Booked(next);
+        return Entered::Accepted(next);
     }
     Entered::Refused(13)
 }
 
 // Shares move, the base depth becomes the depth, the carried water becomes 0. Nothing refuses any more.
-pub fn commit(h: &[u64], m: &mut [u64], b: &mut [u64], c: &mut [i64], left_in: u64, right_in: u64)
-    requires { ⌜ Ready (columns (now m) (now b) (now c) «left_in» «right_in») ⌝ }
-    requires { ⌜ length (now b) ≡ length (now h) ⌝ }
-    ensures { λ _. ⌜ now (m .exit) ≡ movedMass (columns (now (m .entry)) (now (b .entry)) (now (c .entry)) «left_in» «right_in») ⌝ }
-    ensures { λ _. ⌜ now (b .exit) ≡ now (h .entry) ⌝ }
-    ensures { λ _. ⌜ now (c .exit) ≡ replicate (length (now (c .entry))) (pos 0) ⌝ }
+pub fn commit(
+    depth: &[u64],
+    mass: &mut [u64],
+    base: &mut [u64],
+    carried: &mut [i64],
+    left_in: u64,
+    right_in: u64,
+)
+    requires { ⌜ Ready (massColumns (now mass) (now base) (now carried) «left_in» «right_in») ⌝ }
+    requires { ⌜ length (now base) ≡ length (now depth) ⌝ }
+    ensures { λ _. ⌜ now (mass .exit) ≡ movedMass (massColumns (now (mass .entry)) (now (base .entry)) (now (carried .entry)) «left_in» «right_in») ⌝ }
+    ensures { λ _. ⌜ now (base .exit) ≡ now (depth .entry) ⌝ }
+    ensures { λ _. ⌜ now (carried .exit) ≡ replicate (length (now (carried .entry))) (pos 0) ⌝ }
 {
-    move_mass(m, b, c, left_in, right_in);
-    copy_column(b, h);
-    clear_column(c);
+    move_mass(mass, base, carried, left_in, right_in);
+    copy_column(base, depth);
+    clear_column(carried);
 }
 
 // Sets both boundaries, transporting first under the pair held so far.
 pub fn set_boundaries(
-    z: &[i64],
-    h: &[u64],
-    q: &[i64],
-    m: &mut [u64],
-    b: &mut [u64],
-    c: &mut [i64],
+    bed: &[i64],
+    depth: &[u64],
+    discharge: &[i64],
+    mass: &mut [u64],
+    base: &mut [u64],
+    carried: &mut [i64],
     x: u64,
-    ends: [Boundary; 2],
+    boundaries: [Boundary; 2],
     ledger: Ledger,
     given: [Boundary; 2],
-) -> Answer
-    ensures { λ r. ⌜ CameTo (setBoundaries (reachOf (now (z .entry)) (now (h .entry)) (now (q .entry)) (now (m .entry)) (now (b .entry)) (now (c .entry)) x ends ledger) given) r (now (m .exit)) (now (b .exit)) (now (c .exit)) ⌝ }
+) -> TransportAnswer
+    ensures { λ r. ⌜ CameTo (setBoundaries (reachOf (now (bed .entry)) (now (depth .entry)) (now (discharge .entry)) (now (mass .entry)) (now (base .entry)) (now (carried .entry)) x boundaries ledger) given) r (now (mass .exit)) (now (base .exit)) (now (carried .exit)) ⌝ }
 {
-    let checked = check_record(z, h, q, m, b, c, x, ends, ledger, given);
+    let checked = check_record(
+        bed,
+        depth,
+        discharge,
+        mass,
+        base,
+        carried,
+        x,
+        boundaries,
+        ledger,
+        given,
+    );
     let Check::Pass = checked else {
-        return refused(checked, ends, ledger);
+        return refused(checked, boundaries, ledger);
     };
-    let crossed = crossed_of(m, b, c, ends);
-    let Entered::Booked(next) = enter(ledger, crossed) else {
-        return Answer {
+    let crossed = boundary_mass_of(mass, base, carried, boundaries);
+    let Entered::Accepted(next) = enter(ledger, crossed) else {
+        return TransportAnswer {
             refusal: 13,
-            ends,
+            boundaries,
             ledger,
         };
     };
-    commit(h, m, b, c, crossed.left_in, crossed.right_in);
-    Answer {
+    commit(
+        depth,
+        mass,
+        base,
+        carried,
+        crossed.left_in,
+        crossed.right_in,
+    );
+    TransportAnswer {
         refusal: 0,
-        ends: given,
+        boundaries: given,
         ledger: next,
     }
 }
 
 // Transports by itself: the paper's 'settling'.
 pub fn transport(
-    z: &[i64],
-    h: &[u64],
-    q: &[i64],
-    m: &mut [u64],
-    b: &mut [u64],
-    c: &mut [i64],
+    bed: &[i64],
+    depth: &[u64],
+    discharge: &[i64],
+    mass: &mut [u64],
+    base: &mut [u64],
+    carried: &mut [i64],
     x: u64,
-    ends: [Boundary; 2],
+    boundaries: [Boundary; 2],
     ledger: Ledger,
-) -> Answer
-    ensures { λ r. ⌜ CameTo (transportOf (reachOf (now (z .entry)) (now (h .entry)) (now (q .entry)) (now (m .entry)) (now (b .entry)) (now (c .entry)) x ends ledger)) r (now (m .exit)) (now (b .exit)) (now (c .exit)) ⌝ }
+) -> TransportAnswer
+    ensures { λ r. ⌜ CameTo (transportOf (reachOf (now (bed .entry)) (now (depth .entry)) (now (discharge .entry)) (now (mass .entry)) (now (base .entry)) (now (carried .entry)) x boundaries ledger)) r (now (mass .exit)) (now (base .exit)) (now (carried .exit)) ⌝ }
 {
-    set_boundaries(z, h, q, m, b, c, x, ends, ledger, ends)
+    set_boundaries(
+        bed,
+        depth,
+        discharge,
+        mass,
+        base,
+        carried,
+        x,
+        boundaries,
+        ledger,
+        boundaries,
+    )
 }

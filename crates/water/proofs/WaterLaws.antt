@@ -24,14 +24,14 @@ use Rattle.flux.specs.Ranges.{Mesh}
 use Rattle.flux.proofs.CrossingLaws.{still-thrust-mono, still-thrust-most, water-flux-most, momentum-flux-most}
 use Rattle.flux.proofs.VelocityLaws.{velocity-most}
 use Rattle.flux.proofs.InterfaceLaws.{reduced-depth-le, net-water-is, wall-passes-nothing, cell-outflow-le-depth}
-use Rattle.reach.specs.Limits.{wall, openEnd}
+use Rattle.reach.specs.Limits.{wall, openBoundary}
 use Rattle.reach.specs.declared.boundary.Boundary.{Boundary}
-use Rattle.reach.specs.Reach.{Reach, cells, bedAt, depthAt, dischargeAt, leftEnd, rightEnd}
+use Rattle.reach.specs.Reach.{Reach, cells, bedAt, depthAt, dischargeAt, leftBoundary, rightBoundary}
 use Rattle.water.specs.Sides.{cellSide, boundarySide, leftSide, rightSide}
 use Rattle.water.specs.Water.{netAt, momentumAt, ownLeft, ownRight, newDepth, pushed, nearest, newDischarge}
-use Rattle.water.specs.Ranges.{sideOf, CellFits, Crosses, CrossingFits, fluxMost, flowOf, FlowFits, sidesMeet, Swept}
-use Rattle.water.specs.declared.Cell.{Cell}
-use Rattle.water.specs.declared.Crossing.{Crossing}
+use Rattle.water.specs.Ranges.{sideOf, SideStateFits, ExchangeOf, ExchangeFits, fluxMost, flowOf, FlowFits, sidesMeet, Swept}
+use Rattle.water.specs.declared.SideState.{SideState}
+use Rattle.water.specs.declared.Exchange.{Exchange}
 
 -- what either side of interface i sends over it
 unfoldable pub rightward : Reach → (t i : ℕ) → ℕ
@@ -94,18 +94,18 @@ new-depth-is s t i l x cfl =
     (sum-of-parts (depthAt s i) (rightward s t i) (leftward s t i) (rightward s t (suc i)) (leftward s t (suc i)) (outflow-covered s t i l x cfl))
 
 -- over a wall no water comes
-pub wall-left : (s : Reach) (t : ℕ) → 0 < cells s → leftEnd (s .ends) .kind ≡ wall → netAt s t 0 ≡ pos 0
+pub wall-left : (s : Reach) (t : ℕ) → 0 < cells s → leftBoundary (s .boundaries) .kind ≡ wall → netAt s t 0 ≡ pos 0
 unfolding netAt leftSide boundarySide
 wall-left s t n w = rw (right-side-cell s 0 n, eq-eqb _ _ w) (wall-passes-nothing t (s .cellLength) (cellSide s 0) .1)
 
-last-wall : (s : Reach) (t i : ℕ) → cells s ≡ suc i → rightEnd (s .ends) .kind ≡ wall → netWater t (s .cellLength) (leftSide s (suc i)) (rightSide s (suc i)) ≡ pos 0
+last-wall : (s : Reach) (t i : ℕ) → cells s ≡ suc i → rightBoundary (s .boundaries) .kind ≡ wall → netWater t (s .cellLength) (leftSide s (suc i)) (rightSide s (suc i)) ≡ pos 0
 unfolding leftSide rightSide boundarySide
 last-wall s t i e w =
     let n : cells s - 1 ≡ i = omega arith in
     let l : cells s ≤ suc i = omega arith in
-    rw (le-ltb (suc i) (cells s) l, eq-eqb (rightEnd (s .ends) .kind) wall w, n) (wall-passes-nothing t (s .cellLength) (cellSide s i) .0)
+    rw (le-ltb (suc i) (cells s) l, eq-eqb (rightBoundary (s .boundaries) .kind) wall w, n) (wall-passes-nothing t (s .cellLength) (cellSide s i) .0)
 
-pub wall-right : (s : Reach) (t : ℕ) → 0 < cells s → rightEnd (s .ends) .kind ≡ wall → netAt s t (cells s) ≡ pos 0
+pub wall-right : (s : Reach) (t : ℕ) → 0 < cells s → rightBoundary (s .boundaries) .kind ≡ wall → netAt s t (cells s) ≡ pos 0
 unfolding netAt
 wall-right s t n w = go (cells s) n refl
   where
@@ -222,25 +222,25 @@ pub boundary-wall : (e : Boundary) (c : Side) → e .kind ≡ wall → boundaryS
 unfolding boundarySide
 boundary-wall e c w = rw (eq-eqb _ _ w) refl
 
-pub boundary-open : (e : Boundary) (c : Side) → (e .kind ≡ wall → ⊥) → e .kind ≡ openEnd → boundarySide e c ≡ c
+pub boundary-open : (e : Boundary) (c : Side) → (e .kind ≡ wall → ⊥) → e .kind ≡ openBoundary → boundarySide e c ≡ c
 unfolding boundarySide
 boundary-open e c w o = rw (ne-eqb _ _ w, eq-eqb _ _ o) refl
 
-pub boundary-fed : (e : Boundary) (c : Side) → (e .kind ≡ wall → ⊥) → (e .kind ≡ openEnd → ⊥)
+pub boundary-fed : (e : Boundary) (c : Side) → (e .kind ≡ wall → ⊥) → (e .kind ≡ openBoundary → ⊥)
     → boundarySide e c ≡ record { bed = c .bed; depth = e .depth; velocity = velocity (e .depth) (e .discharge) }
 unfolding boundarySide
 boundary-fed e c w o = rw (ne-eqb _ _ w, ne-eqb _ _ o) refl
 
 -- ---- amounts of a crossing are small
 
-side-velocity : (c : Cell) → CellFits c → natAbs (sideOf c .velocity) ≤ velocityMost
+side-velocity : (c : SideState) → SideStateFits c → natAbs (sideOf c .velocity) ≤ velocityMost
 side-velocity c f =
     let r = f .right-most in
     let l = f .left-most in
     omega (arith, abs-sub (c .right) (c .left))
 
-pub crossing-fits : {t X : ℕ} (c : Crossing) {l r : Cell} → Mesh t X → CellFits l → CellFits r
-    → Crosses t X (sideOf l) (sideOf r) (c .rightward) (c .leftward) (c .momentum) (c .«lost_left») (c .«lost_right») → CrossingFits c
+pub crossing-fits : {t X : ℕ} (c : Exchange) {l r : SideState} → Mesh t X → SideStateFits l → SideStateFits r
+    → ExchangeOf t X (sideOf l) (sideOf r) (c .rightward) (c .leftward) (c .momentum) (c .«lost_left») (c .«lost_right») → ExchangeFits c
 unfolding momentumSum leftDepth rightDepth
 crossing-fits {t} {X} c {l} {r} g fl fr k =
     let ul = subℕ (l .right) (l .left) in
@@ -261,29 +261,29 @@ crossing-fits {t} {X} c {l} {r} g fl fr k =
 
 -- ---- what the sweep carries from an interface to the next
 
-pub crosses-at : {t X a b p d e : ℕ} {l r l' r' : Side} → l ≡ l' → r ≡ r' → Crosses t X l r a b p d e → Crosses t X l' r' a b p d e
-crosses-at e f k = rw (← e, ← f) k
+pub exchange-at : {t X a b p d e : ℕ} {l r l' r' : Side} → l ≡ l' → r ≡ r' → ExchangeOf t X l r a b p d e → ExchangeOf t X l' r' a b p d e
+exchange-at e f k = rw (← e, ← f) k
 
 pub left-side-next : (s : Reach) (i : ℕ) → leftSide s (i + 1) ≡ cellSide s i
 left-side-next s i = rw (add-one i) (left-side-cell s i)
 
 -- the right side of the next interface: the next cell, or the right boundary beside this one
 pub right-side-next : (s : Reach) (i : ℕ) (c : Side) → i < cells s → c ≡ cellSide s i
-    → cond (ltb (i + 1) (cells s)) (cellSide s (i + 1)) (boundarySide (rightEnd (s .ends)) c) ≡ rightSide s (i + 1)
+    → cond (ltb (i + 1) (cells s)) (cellSide s (i + 1)) (boundarySide (rightBoundary (s .boundaries)) c) ≡ rightSide s (i + 1)
 unfolding rightSide
 right-side-next s i c l e =
-    by-less (i + 1) (cells s) (λ b. cond b (cellSide s (i + 1)) (boundarySide (rightEnd (s .ends)) c) ≡ cond b (cellSide s (i + 1)) (boundarySide (rightEnd (s .ends)) (cellSide s (cells s - 1))))
+    by-less (i + 1) (cells s) (λ b. cond b (cellSide s (i + 1)) (boundarySide (rightBoundary (s .boundaries)) c) ≡ cond b (cellSide s (i + 1)) (boundarySide (rightBoundary (s .boundaries)) (cellSide s (cells s - 1))))
     (λ k. refl)
-    (λ k. let n : i ≡ cells s - 1 = omega arith in ap (boundarySide (rightEnd (s .ends))) (e ∙ ap (cellSide s) n))
+    (λ k. let n : i ≡ cells s - 1 = omega arith in ap (boundarySide (rightBoundary (s .boundaries))) (e ∙ ap (cellSide s) n))
 
 module _ (s : Reach) (t : ℕ) where
-  pub net-by-crossing : (i : ℕ) {a b p d e : ℕ} → Crosses t (s .cellLength) (leftSide s i) (rightSide s i) a b p d e → netAt s t i ≡ subℕ a b
+  pub net-by-crossing : (i : ℕ) {a b p d e : ℕ} → ExchangeOf t (s .cellLength) (leftSide s i) (rightSide s i) a b p d e → netAt s t i ≡ subℕ a b
   unfolding rightward leftward
   net-by-crossing i k = net-is s t i ∙ sym (ap₂ subℕ (k .rightward-is) (k .leftward-is))
 
   module _ (i : ℕ) {a b p d e a' b' p' d' e' : ℕ} (l : i < cells s)
-      (k : Crosses t (s .cellLength) (leftSide s i) (rightSide s i) a b p d e)
-      (k' : Crosses t (s .cellLength) (leftSide s (i + 1)) (rightSide s (i + 1)) a' b' p' d' e') where
+      (k : ExchangeOf t (s .cellLength) (leftSide s i) (rightSide s i) a b p d e)
+      (k' : ExchangeOf t (s .cellLength) (leftSide s (i + 1)) (rightSide s (i + 1)) a' b' p' d' e') where
     pub depth-by-crossings : positive (newDepth s t i) ≡ depthAt s i + a + b' - (b + a')
     unfolding newDepth
     depth-by-crossings =
@@ -313,7 +313,7 @@ unfolding allBelow
 meets-more true f i = rw (add-one (i + 1)) refl
 meets-more false f i = refl
 
-pub right-side-end : (s : Reach) → rightSide s (cells s) ≡ boundarySide (rightEnd (s .ends)) (cellSide s (cells s - 1))
+pub right-side-end : (s : Reach) → rightSide s (cells s) ≡ boundarySide (rightBoundary (s .boundaries)) (cellSide s (cells s - 1))
 unfolding rightSide
 right-side-end s = rw (le-ltb (cells s) (cells s) (omega arith)) refl
 
@@ -326,7 +326,7 @@ pub record SideFits (s : Side) : Type 0 where
 
 boundary-side-fits : (e : Boundary) (c : Side) → (e .depth ≤ depthMost) × (natAbs (e .discharge) ≤ velocityMost * e .depth) → SideFits c → SideFits (boundarySide e c)
 unfolding boundarySide mirrored
-boundary-side-fits e c r f = go (eqb (e .kind) wall) (eqb (e .kind) openEnd)
+boundary-side-fits e c r f = go (eqb (e .kind) wall) (eqb (e .kind) openBoundary)
   where
     go : (w o : Bool) → SideFits (cond w (mirrored c) (cond o c (record { bed = c .bed; depth = e .depth; velocity = velocity (e .depth) (e .discharge) })))
     go true o = record { depth = f .depth; velocity = omega (arith, abs-neg (c .velocity), f .velocity) }
@@ -340,15 +340,15 @@ module _ (s : Reach) (f : FlowFits s) where
 
   left-side-fits : (i : ℕ) → i ≤ cells s → SideFits (leftSide s i)
   unfolding leftSide
-  left-side-fits zero l = boundary-side-fits (leftEnd (s .ends)) (cellSide s 0) (f .left) (cell-side-fits 0 (f .some))
+  left-side-fits zero l = boundary-side-fits (leftBoundary (s .boundaries)) (cellSide s 0) (f .left) (cell-side-fits 0 (f .some))
   left-side-fits (suc i) l = cell-side-fits i l
 
   right-side-fits : (i : ℕ) → i ≤ cells s → SideFits (rightSide s i)
   unfolding rightSide
   right-side-fits i l =
-      by-less i (cells s) (λ b. SideFits (cond b (cellSide s i) (boundarySide (rightEnd (s .ends)) (cellSide s (cells s - 1)))))
+      by-less i (cells s) (λ b. SideFits (cond b (cellSide s i) (boundarySide (rightBoundary (s .boundaries)) (cellSide s (cells s - 1)))))
       (λ k. cell-side-fits i k)
-      (λ k. boundary-side-fits (rightEnd (s .ends)) (cellSide s (cells s - 1)) (f .right) (cell-side-fits (cells s - 1) (let n = f .some in omega arith)))
+      (λ k. boundary-side-fits (rightBoundary (s .boundaries)) (cellSide s (cells s - 1)) (f .right) (cell-side-fits (cells s - 1) (let n = f .some in omega arith)))
 
   pub net-small : (t i : ℕ) → Mesh t (s .cellLength) → i ≤ cells s → natAbs (netAt s t i) ≤ fluxMost
   unfolding rightward leftward leftDepth rightDepth
@@ -370,7 +370,7 @@ module _ (s : Reach) (f : FlowFits s) where
 
 module _ (s : Reach) (t : ℕ) where
   abbrev flow : Reach
-  flow = flowOf (s .bed) (s .depth) (s .discharge) (s .cellLength) (s .ends)
+  flow = flowOf (s .bed) (s .depth) (s .discharge) (s .cellLength) (s .boundaries)
 
   pub sides-same : sidesMeet flow t ≡ sidesMeet s t
   unfolding sidesMeet leftSide rightSide cellSide

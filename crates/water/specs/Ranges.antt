@@ -12,20 +12,20 @@ use Rattle.flux.specs.Limits.{bedMost, depthMost, velocityMost}
 use Rattle.flux.specs.Crossing.{waterFlux, stillThrust}
 use Rattle.flux.specs.Interface.{Side, leftDepth, rightDepth, momentumSum}
 use Rattle.flux.specs.Wave.{waveSpeed}
-use Rattle.reach.specs.Reach.{Reach, reachOf, cells, bedAt, depthAt, dischargeAt, leftEnd, rightEnd}
+use Rattle.reach.specs.Reach.{Reach, reachOf, cells, bedAt, depthAt, dischargeAt, leftBoundary, rightBoundary}
 use Rattle.reach.specs.declared.boundary.Boundary.{Boundary}
 use Rattle.reach.specs.declared.ledger.Totals.{Totals}
 use Rattle.water.specs.Sides.{leftSide, rightSide}
 use Rattle.water.specs.Water.{netAt, newDepth, newDischarge}
-use Rattle.water.specs.declared.Cell.{Cell}
-use Rattle.water.specs.declared.Crossing.{Crossing}
+use Rattle.water.specs.declared.SideState.{SideState}
+use Rattle.water.specs.declared.Exchange.{Exchange}
 
 -- the side that a cell is
-abbrev pub sideOf : Cell → Side
+abbrev pub sideOf : SideState → Side
 sideOf c = record { bed = c .bed; depth = c .depth; velocity = subℕ (c .right) (c .left) }
 
 -- its values are in range, and its wave speed is that of its depth
-pub record CellFits (c : Cell) : Type 0 where
+pub record SideStateFits (c : SideState) : Type 0 where
   pub bed : natAbs (c .bed) ≤ bedMost
   pub depth : c .depth ≤ depthMost
   pub wave : c .wave ≡ waveSpeed (c .depth)
@@ -33,7 +33,7 @@ pub record CellFits (c : Cell) : Type 0 where
   pub left-most : c .left ≤ velocityMost
 
 -- what crosses an interface between l and r: both W, P, and what the bed takes of either side's S
-pub record Crosses (t X : ℕ) (l r : Side) (rightward leftward momentum lostLeft lostRight : ℕ) : Type 0 where
+pub record ExchangeOf (t X : ℕ) (l r : Side) (rightward leftward momentum lostLeft lostRight : ℕ) : Type 0 where
   pub rightward-is : rightward ≡ waterFlux t X (leftDepth l r) (l .velocity)
   pub leftward-is : leftward ≡ waterFlux t X (rightDepth l r) (negℤ (r .velocity))
   pub momentum-is : momentum ≡ momentumSum t X l r
@@ -47,7 +47,7 @@ fluxMost = 640_000_000
 abbrev pub thrustMost : ℕ
 thrustMost = 20_480_000_000_000
 
-pub record CrossingFits (c : Crossing) : Type 0 where
+pub record ExchangeFits (c : Exchange) : Type 0 where
   pub rightward-most : c .rightward ≤ fluxMost
   pub leftward-most : c .leftward ≤ fluxMost
   pub momentum-most : c .momentum ≤ thrustMost
@@ -74,8 +74,8 @@ pub record FlowFits (s : Reach) : Type 0 where
   pub depths : length (s .depth) ≡ cells s
   pub discharges : length (s .discharge) ≡ cells s
   pub cell : (i : ℕ) → i < cells s → InRange (bedAt s i) (depthAt s i) (dischargeAt s i)
-  pub left : (leftEnd (s .ends) .depth ≤ depthMost) × (natAbs (leftEnd (s .ends) .discharge) ≤ velocityMost * leftEnd (s .ends) .depth)
-  pub right : (rightEnd (s .ends) .depth ≤ depthMost) × (natAbs (rightEnd (s .ends) .discharge) ≤ velocityMost * rightEnd (s .ends) .depth)
+  pub left : (leftBoundary (s .boundaries) .depth ≤ depthMost) × (natAbs (leftBoundary (s .boundaries) .discharge) ≤ velocityMost * leftBoundary (s .boundaries) .depth)
+  pub right : (rightBoundary (s .boundaries) .depth ≤ depthMost) × (natAbs (rightBoundary (s .boundaries) .discharge) ≤ velocityMost * rightBoundary (s .boundaries) .depth)
 
 -- |u|+a of a side meets CFL
 unfoldable pub sideMeets : (t X : ℕ) → Side → Bool

@@ -4,8 +4,8 @@ use Prim.Native.Nat.{ℕ, zero, suc, _-_}
 use lib.Dec.{eqb, ltb}
 use Rattle.flux.specs.Interface.{Side, mirrored}
 use Rattle.flux.specs.Velocity.{velocity}
-use Rattle.reach.specs.Limits.{wall, openEnd}
-use Rattle.reach.specs.Reach.{Reach, cells, bedAt, depthAt, dischargeAt, leftEnd, rightEnd}
+use Rattle.reach.specs.Limits.{wall, openBoundary}
+use Rattle.reach.specs.Reach.{Reach, cells, bedAt, depthAt, dischargeAt, leftBoundary, rightBoundary}
 use Rattle.reach.specs.declared.boundary.Boundary.{Boundary}
 
 -- cell i
@@ -17,12 +17,12 @@ cellSide s i = record { bed = bedAt s i; depth = depthAt s i; velocity = velocit
 unfoldable pub boundarySide : Boundary → Side → Side
 boundarySide e c =
     cond (eqb (e .kind) wall) (mirrored c)
-    (cond (eqb (e .kind) openEnd) c (record { bed = c .bed; depth = e .depth; velocity = velocity (e .depth) (e .discharge) }))
+    (cond (eqb (e .kind) openBoundary) c (record { bed = c .bed; depth = e .depth; velocity = velocity (e .depth) (e .discharge) }))
 
 -- the left and the right side of interface i
 unfoldable pub leftSide : Reach → ℕ → Side
-leftSide s zero = boundarySide (leftEnd (s .ends)) (cellSide s 0)
+leftSide s zero = boundarySide (leftBoundary (s .boundaries)) (cellSide s 0)
 leftSide s (suc i) = cellSide s i
 
 unfoldable pub rightSide : Reach → ℕ → Side
-rightSide s i = cond (ltb i (cells s)) (cellSide s i) (boundarySide (rightEnd (s .ends)) (cellSide s (cells s - 1)))
+rightSide s i = cond (ltb i (cells s)) (cellSide s i) (boundarySide (rightBoundary (s .boundaries)) (cellSide s (cells s - 1)))

@@ -8,10 +8,10 @@ ghost use Rattle.flux.specs.Limits.{bedMost, depthMost, velocityMost};
 ghost use Rattle.flux.specs.Crossing.{stillThrust};
 ghost use Rattle.flux.specs.Ranges.{Mesh, Flow};
 ghost use Rattle.flux.specs.Velocity.{velocity};
-ghost use Rattle.water.specs.Ranges.{sideOf, CellFits, Crosses, CrossingFits};
+ghost use Rattle.water.specs.Ranges.{sideOf, SideStateFits, ExchangeOf, ExchangeFits};
 ghost use Rattle.water.specs.Sides.{boundarySide};
 ghost use Rattle.water.specs.Water.{nearest};
-use flux::crossing::crossing_of;
+use flux::crossing::fluxes_of;
 use flux::crossing::still_thrust;
 use flux::interface::reduced_depth;
 use flux::interface::reduced_wave;
@@ -26,7 +26,7 @@ use reach::boundary::OPEN;
 use reach::boundary::WALL;
 
 // A cell, or an end beside one: bed level, depth, wave speed, and velocity right − left
-pub struct Cell {
+pub struct SideState {
     pub bed: i64,
     pub depth: u64,
     pub wave: u64,
@@ -34,12 +34,12 @@ pub struct Cell {
     pub left: u64,
 }
 
-pub fn cell_of(z: i64, h: u64, q: i64) -> Cell
+pub fn cell_state(z: i64, h: u64, q: i64) -> SideState
     requires { ⌜ (natAbs z ≤ bedMost) × ((h ≤ depthMost) × (natAbs q ≤ velocityMost * h)) ⌝ }
-    ensures { λ r. ⌜ CellFits r × (sideOf r ≡ record { bed = z; depth = h; velocity = velocity h q }) ⌝ }
+    ensures { λ r. ⌜ SideStateFits r × (sideOf r ≡ record { bed = z; depth = h; velocity = velocity h q }) ⌝ }
 {
     let u = velocity_parts(h, q);
-    Cell {
+    SideState {
         bed: z,
         depth: h,
         wave: wave_speed(h),
@@ -49,12 +49,12 @@ pub fn cell_of(z: i64, h: u64, q: i64) -> Cell
 }
 
 // What an end shows beside the cell c
-pub fn boundary_cell(e: Boundary, c: Cell) -> Cell
-    requires { ⌜ CellFits c × ((e .depth ≤ depthMost) × (natAbs (e .discharge) ≤ velocityMost * e .depth)) ⌝ }
-    ensures { λ r. ⌜ CellFits r × (sideOf r ≡ boundarySide e (sideOf c)) ⌝ }
+pub fn boundary_state(e: Boundary, c: SideState) -> SideState
+    requires { ⌜ SideStateFits c × ((e .depth ≤ depthMost) × (natAbs (e .discharge) ≤ velocityMost * e .depth)) ⌝ }
+    ensures { λ r. ⌜ SideStateFits r × (sideOf r ≡ boundarySide e (sideOf c)) ⌝ }
 {
     if e.kind == WALL {
-        return Cell {
+        return SideState {
             bed: c.bed,
             depth: c.depth,
             wave: c.wave,
@@ -65,7 +65,7 @@ pub fn boundary_cell(e: Boundary, c: Cell) -> Cell
     if e.kind == OPEN {
         return c;
     }
-    cell_of(c.bed, e.depth, e.discharge)
+    cell_state(c.bed, e.depth, e.discharge)
 }
 
 // S of the whole depth less S of the reduced depth: no quotient where nothing is taken off
@@ -82,7 +82,7 @@ fn thrust_lost(t: u64, x: u64, h: u64, a: u64, reduced: u64, reduced_a: u64) -> 
 // What crosses an interface: W of the left side rightwards, W of the right side leftwards, P, and what the bed takes of either side's thrust,
 // S(h) − S(h*). N is rightward − leftward; of a cell, S(own h* at the right) − S(own h* at the left) is what is lost at its left less what is
 // lost at its right.
-pub struct Crossing {
+pub struct Exchange {
     pub rightward: u64,
     pub leftward: u64,
     pub momentum: u64,
@@ -90,18 +90,18 @@ pub struct Crossing {
     pub lost_right: u64,
 }
 
-pub fn crossing_between(t: u64, x: u64, l: Cell, r: Cell) -> Crossing
-    requires { ⌜ Mesh t x × (CellFits l × CellFits r) ⌝ }
-    ensures { λ c. ⌜ Crosses t x (sideOf l) (sideOf r) (c .rightward) (c .leftward) (c .momentum) (c .«lost_left») (c .«lost_right») × CrossingFits c ⌝ }
+pub fn exchange_between(t: u64, x: u64, l: SideState, r: SideState) -> Exchange
+    requires { ⌜ Mesh t x × (SideStateFits l × SideStateFits r) ⌝ }
+    ensures { λ c. ⌜ ExchangeOf t x (sideOf l) (sideOf r) (c .rightward) (c .leftward) (c .momentum) (c .«lost_left») (c .«lost_right») × ExchangeFits c ⌝ }
 {
     let hl = reduced_depth(l.depth, l.bed, r.bed);
     let hr = reduced_depth(r.depth, r.bed, l.bed);
     let al = reduced_wave(hl, l.depth, l.wave);
     let ar = reduced_wave(hr, r.depth, r.wave);
-    let a = crossing_of(t, x, hl, al, l.right, l.left);
+    let a = fluxes_of(t, x, hl, al, l.right, l.left);
     // turned round: what the right side sends leftwards is what a mirrored reach would send rightwards
-    let b = crossing_of(t, x, hr, ar, r.left, r.right);
-    Crossing {
+    let b = fluxes_of(t, x, hr, ar, r.left, r.right);
+    Exchange {
         rightward: a.water,
         leftward: b.water,
         momentum: a.momentum + b.momentum,

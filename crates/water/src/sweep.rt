@@ -9,24 +9,24 @@ ghost use lib.ListN.{length, getD};
 ghost use Rattle.flux.specs.Limits.{depthMost, velocityMost};
 ghost use Rattle.flux.specs.Ranges.{Mesh};
 ghost use Rattle.reach.specs.Grounds.{passOr};
-ghost use Rattle.water.specs.Ranges.{sideOf, CellFits, CrossingFits, flowOf, InRange, FlowFits, sideMeets, sidesMeet, Swept};
+ghost use Rattle.water.specs.Ranges.{sideOf, SideStateFits, ExchangeFits, flowOf, InRange, FlowFits, sideMeets, sidesMeet, Swept};
 ghost use Rattle.flux.specs.Velocity.{velocity};
 ghost use Rattle.water.specs.Sides.{boundarySide};
 ghost use Rattle.water.specs.Water.{nearest};
-use super::Cell;
-use super::Crossing;
-use super::boundary_cell;
-use super::cell_of;
-use super::crossing_between;
+use super::Exchange;
+use super::SideState;
+use super::boundary_state;
+use super::cell_state;
 use super::discharge_after;
+use super::exchange_between;
 use numbers::signed::excess;
 use numbers::signed::joined;
 use reach::boundary::Boundary;
 use reach::refusal::Check;
 
 // Whether CFL, kept so far, is kept at the side c too
-fn still_meets(met: bool, t: u64, x: u64, c: Cell) -> bool
-    requires { ⌜ Mesh t x × CellFits c ⌝ }
+fn still_meets(met: bool, t: u64, x: u64, c: SideState) -> bool
+    requires { ⌜ Mesh t x × SideStateFits c ⌝ }
     ensures { λ r. ⌜ r ≡ (met && sideMeets t x (sideOf c)) ⌝ }
 {
     if !met {
@@ -36,37 +36,44 @@ fn still_meets(met: bool, t: u64, x: u64, c: Cell) -> bool
 }
 
 // Cell i, or the right boundary beside the cell before it
-fn right_side(z: &[i64], h: &[u64], q: &[i64], end: Boundary, before: Cell, i: usize) -> Cell
-    requires { ⌜ (length (now h) ≡ length (now z)) × (length (now q) ≡ length (now z)) ⌝ }
-    requires { ⌜ (i < length (now z) → InRange (getD (now z) i (pos 0)) (getD (now h) i 0) (getD (now q) i (pos 0))) ⌝ }
-    requires { ⌜ CellFits before × ((end .depth ≤ depthMost) × (natAbs (end .discharge) ≤ velocityMost * end .depth)) ⌝ }
-    ensures { λ r. ⌜ CellFits r × (sideOf r ≡ cond (ltb i (length (now (z .entry)))) (record { bed = getD (now (z .entry)) i (pos 0); depth = getD (now (h .entry)) i 0; velocity = velocity (getD (now (h .entry)) i 0) (getD (now (q .entry)) i (pos 0)) }) (boundarySide end (sideOf before))) ⌝ }
+fn right_side(
+    bed: &[i64],
+    depth: &[u64],
+    discharge: &[i64],
+    end: Boundary,
+    before: SideState,
+    i: usize,
+) -> SideState
+    requires { ⌜ (length (now depth) ≡ length (now bed)) × (length (now discharge) ≡ length (now bed)) ⌝ }
+    requires { ⌜ (i < length (now bed) → InRange (getD (now bed) i (pos 0)) (getD (now depth) i 0) (getD (now discharge) i (pos 0))) ⌝ }
+    requires { ⌜ SideStateFits before × ((end .depth ≤ depthMost) × (natAbs (end .discharge) ≤ velocityMost * end .depth)) ⌝ }
+    ensures { λ r. ⌜ SideStateFits r × (sideOf r ≡ cond (ltb i (length (now (bed .entry)))) (record { bed = getD (now (bed .entry)) i (pos 0); depth = getD (now (depth .entry)) i 0; velocity = velocity (getD (now (depth .entry)) i 0) (getD (now (discharge .entry)) i (pos 0)) }) (boundarySide end (sideOf before))) ⌝ }
 {
-    if i < z.len() {
-        return cell_of(z[i], h[i], q[i]);
+    if i < bed.len() {
+        return cell_state(bed[i], depth[i], discharge[i]);
     }
-    boundary_cell(end, before)
+    boundary_state(end, before)
 }
 
 // N of a crossing
-fn net_of(c: Crossing) -> i64
-    requires { ⌜ CrossingFits c ⌝ }
+fn net_of(c: Exchange) -> i64
+    requires { ⌜ ExchangeFits c ⌝ }
     ensures { λ r. ⌜ r ≡ subℕ (c .rightward) (c .leftward) ⌝ }
 {
     joined(c.rightward, c.leftward)
 }
 
 // The depth of a cell after the step, by what crosses at its left and at its right. CFL keeps the difference from being cut off at 0.
-fn depth_after(h: u64, l: Crossing, r: Crossing) -> u64
-    requires { ⌜ (h ≤ depthMost) × (CrossingFits l × CrossingFits r) ⌝ }
+fn depth_after(h: u64, l: Exchange, r: Exchange) -> u64
+    requires { ⌜ (h ≤ depthMost) × (ExchangeFits l × ExchangeFits r) ⌝ }
     ensures { λ d. ⌜ d ≡ h + l .rightward + r .leftward - (l .leftward + r .rightward) ⌝ }
 {
     excess(h + l.rightward + r.leftward, l.leftward + r.rightward)
 }
 
 // Its discharge, over the depth that it then has
-fn momentum_after(q: i64, l: Crossing, r: Crossing, depth: u64) -> i64
-    requires { ⌜ (natAbs q ≤ velocityMost * depthMost) × ((depth ≤ 2_000_000_000) × (CrossingFits l × CrossingFits r)) ⌝ }
+fn momentum_after(q: i64, l: Exchange, r: Exchange, depth: u64) -> i64
+    requires { ⌜ (natAbs q ≤ velocityMost * depthMost) × ((depth ≤ 2_000_000_000) × (ExchangeFits l × ExchangeFits r)) ⌝ }
     ensures { λ a. ⌜ a ≡ nearest (velocityMost * depth) (q +ℤ pos (l .momentum + l .«lost_right») -ℤ pos (r .momentum + r .«lost_left»)) ⌝ }
 {
     discharge_after(
@@ -91,34 +98,34 @@ fn check_cfl(met: bool) -> Check
 pub fn sweep(
     t: u64,
     x: u64,
-    z: &[i64],
-    h: &[u64],
-    q: &[i64],
-    ends: [Boundary; 2],
+    bed: &[i64],
+    depth: &[u64],
+    discharge: &[i64],
+    boundaries: [Boundary; 2],
     net: &mut [i64],
-    depth: &mut [u64],
-    discharge: &mut [i64],
+    new_depth: &mut [u64],
+    new_discharge: &mut [i64],
 ) -> Check
-    requires { ⌜ Mesh t x × FlowFits (flowOf (now z) (now h) (now q) x ends) ⌝ }
-    requires { ⌜ (length (now z) < length (now net)) × ((length (now z) ≤ length (now depth)) × (length (now z) ≤ length (now discharge))) ⌝ }
-    ensures { λ r. ⌜ r ≡ passOr 11 (sidesMeet (flowOf (now (z .entry)) (now (h .entry)) (now (q .entry)) x ends) t) ⌝ }
-    ensures { λ _. ⌜ Swept (flowOf (now (z .entry)) (now (h .entry)) (now (q .entry)) x ends) t (now (net .exit)) (now (depth .exit)) (now (discharge .exit)) ⌝ }
+    requires { ⌜ Mesh t x × FlowFits (flowOf (now bed) (now depth) (now discharge) x boundaries) ⌝ }
+    requires { ⌜ (length (now bed) < length (now net)) × ((length (now bed) ≤ length (now «new_depth»)) × (length (now bed) ≤ length (now «new_discharge»))) ⌝ }
+    ensures { λ r. ⌜ r ≡ passOr 11 (sidesMeet (flowOf (now (bed .entry)) (now (depth .entry)) (now (discharge .entry)) x boundaries) t) ⌝ }
+    ensures { λ _. ⌜ Swept (flowOf (now (bed .entry)) (now (depth .entry)) (now (discharge .entry)) x boundaries) t (now (net .exit)) (now («new_depth» .exit)) (now («new_discharge» .exit)) ⌝ }
 {
-    let n = z.len();
-    let mut cell = cell_of(z[0], h[0], q[0]);
-    let beyond = boundary_cell(ends[0], cell);
+    let n = bed.len();
+    let mut cell = cell_state(bed[0], depth[0], discharge[0]);
+    let beyond = boundary_state(boundaries[0], cell);
     let mut met = still_meets(still_meets(true, t, x, beyond), t, x, cell);
-    let mut left = crossing_between(t, x, beyond, cell);
+    let mut left = exchange_between(t, x, beyond, cell);
     net[0] = net_of(left);
     let mut i = 0;
     while i < n {
-        let next = right_side(z, h, q, ends[1], cell, i + 1);
-        let right = crossing_between(t, x, cell, next);
-        let deep = depth_after(h[i], left, right);
+        let next = right_side(bed, depth, discharge, boundaries[1], cell, i + 1);
+        let right = exchange_between(t, x, cell, next);
+        let deep = depth_after(depth[i], left, right);
         met = still_meets(met, t, x, next);
         net[i + 1] = net_of(right);
-        depth[i] = deep;
-        discharge[i] = momentum_after(q[i], left, right, deep);
+        new_depth[i] = deep;
+        new_discharge[i] = momentum_after(discharge[i], left, right, deep);
         cell = next;
         left = right;
         i += 1;

@@ -12,8 +12,8 @@ use lib.Seq.{ext-getD, take-at, take-all}
 use Rattle.numbers.specs.Index.{tabulate}
 use Rattle.numbers.proofs.IndexLaws.{and-both, and-left, and-right, all-of, all-at, all-below, on, only, length-tabulate}
 use Rattle.flux.specs.Limits.{cellLengthMost}
-use Rattle.reach.specs.Limits.{cellsMost, wall, openEnd, fed}
-use Rattle.reach.specs.Reach.{Reach, reachOf, cells, leftEnd, rightEnd, bedAt, depthAt, dischargeAt, massAt, baseAt, carriedAt}
+use Rattle.reach.specs.Limits.{cellsMost, wall, openBoundary, fed}
+use Rattle.reach.specs.Reach.{Reach, reachOf, cells, leftBoundary, rightBoundary, bedAt, depthAt, dischargeAt, massAt, baseAt, carriedAt}
 use Rattle.reach.specs.Grounds.{Ground, firstRefusal, recordGrounds, cellLengthFits, kindFits, boundaryFits, boundariesFit, cellsFit}
 use Rattle.reach.specs.Outcome.{Outcome, outcome}
 use Rattle.reach.specs.declared.boundary.Boundary.{Boundary}
@@ -22,12 +22,12 @@ use Rattle.reach.specs.declared.refusal.Check.the-variants.{Pass, Refused}
 use Rattle.reach.proofs.GroundsLaws.{stood, go-on, further, passed-first}
 use Rattle.reach.proofs.Sound.{boundary-sound, CarriedSound, Sound, sound, stands}
 use Rattle.sheet.specs.Bytes.{numberAt, twos, columnAt}
-use Rattle.sheet.specs.Header.{sheetSize, editionOf, lengthOf, countOf, cellLengthOf, bedsAt, depthsAt, dischargesAt, massesAt, boundaryAt, endsOf, editionFits, sizeFits, Span, span, inside, apart, columnsClear, spansOf}
+use Rattle.sheet.specs.Header.{sheetSize, editionOf, lengthOf, countOf, cellLengthOf, bedsAt, depthsAt, dischargesAt, massesAt, boundaryAt, boundariesOf, editionFits, sizeFits, Span, span, inside, apart, columnsClear, spansOf}
 use Rattle.sheet.specs.Opening.{emptyLedger, sheetRecord, lentFit, openGrounds, opening}
 use Rattle.sheet.proofs.HeaderLaws.{four-clear}
 use Rattle.sheet.proofs.OpeningLaws.{accepted, opened-passes, opened-sound}
 use Rattle.writing.specs.Bytes.{bitsIn, bits, columnBytes, written}
-use Rattle.writing.specs.Writing.{boundaryBytes, bedsFrom, depthsFrom, dischargesFrom, massesFrom, headerBytes, sheetBytes, settledFits, roomFits, writeGrounds, outputBy, writeRefusal, outputAfter}
+use Rattle.writing.specs.Writing.{boundaryBytes, bedsFrom, depthsFrom, dischargesFrom, massesFrom, headerBytes, sheetBytes, noneCarried, roomFits, writeGrounds, outputBy, writeRefusal, outputAfter}
 use Rattle.writing.specs.RoundTrip.{LentFor, withEmptyLedger, ReadsBack, InWritersOrder, WrittenAgain}
 use Rattle.writing.proofs.WritingLaws.{length-column, length-boundary, length-header}
 use Rattle.writing.proofs.BytesBack.{number-past, word-back, column-back, bits4-below, bits8-below, twos-bits4, twos-bits8, AllBytes, all-bytes, joined, column-again, turned-again, bits-twos4, bits-twos8}
@@ -35,7 +35,7 @@ use Rattle.writing.proofs.BytesBack.{number-past, word-back, column-bac
 -- ---- the header read back
 
 -- a boundary's kind is one of three
-kind-of : (k : ℕ) (a b c w o f : Bool) → eqb k wall ≡ a → eqb k openEnd ≡ b → eqb k fed ≡ c → cond a w (cond b o (cond c f false)) ≡ true → k ≤ 2
+kind-of : (k : ℕ) (a b c w o f : Bool) → eqb k wall ≡ a → eqb k openBoundary ≡ b → eqb k fed ≡ c → cond a w (cond b o (cond c f false)) ≡ true → k ≤ 2
 kind-of k true b c w o f p q r e = omega (arith, eqb-true k 0 p)
 kind-of k false true c w o f p q r e = omega (arith, eqb-true k 1 q)
 kind-of k false false true w o f p q r e = omega (arith, eqb-true k 2 r)
@@ -88,8 +88,8 @@ pub record Headed (t : List ℕ) (n X : ℕ) (es : List Boundary) : Type 0 where
   pub depths : depthsAt t ≡ depthsFrom n
   pub discharges : dischargesAt t ≡ dischargesFrom n
   pub masses : massesAt t ≡ massesFrom n
-  pub left : boundaryAt t 32 ≡ leftEnd es
-  pub right : boundaryAt t 56 ≡ rightEnd es
+  pub left : boundaryAt t 32 ≡ leftBoundary es
+  pub right : boundaryAt t 56 ≡ rightBoundary es
 
 pub header-back : (n X : ℕ) (es : List Boundary) (q : List ℕ) → n ≤ cellsMost → X ≤ cellLengthMost → boundariesFit es ≡ true
     → Headed (headerBytes n X es ++ q) n X es
@@ -97,16 +97,16 @@ unfolding headerBytes sheetSize boundariesFit
 header-back n X es q few x f =
     let ws : List ℕ = 1 ∷ sheetSize n ∷ n ∷ X ∷ bedsFrom n ∷ depthsFrom n ∷ dischargesFrom n ∷ massesFrom n ∷ [] in
     let w = columnBytes 4 ws in
-    let l = boundaryBytes (leftEnd es) in
-    let r = boundaryBytes (rightEnd es) in
+    let l = boundaryBytes (leftBoundary es) in
+    let r = boundaryBytes (rightBoundary es) in
     let t = (w ++ (l ++ r)) ++ q in
     let lw : length w ≡ 32 = length-column 4 ws in
-    let lwl : length (w ++ l) ≡ 56 = length-append w l ∙ omega (arith, lw, length-boundary (leftEnd es)) in
+    let lwl : length (w ++ l) ≡ 56 = length-append w l ∙ omega (arith, lw, length-boundary (leftBoundary es)) in
     let flat : t ≡ w ++ (l ++ (r ++ q)) = append-assoc w (l ++ r) q ∙ ap (λ (y : List ℕ). w ++ y) (append-assoc l r q) in
     let flat₂ : t ≡ (w ++ l) ++ (r ++ q) = flat ∙ sym (append-assoc w l (r ++ q)) in
     let word : (i : ℕ) → i < 8 → getD ws i 0 < 256 ^ 4 → numberAt 4 t (4 * i) ≡ getD ws i 0
     = λ i e₁ e₂. ap (λ (y : List ℕ). numberAt 4 y (4 * i)) flat ∙ word-back 4 ws (l ++ (r ++ q)) i e₁ e₂ in
-    let ends = all-of _ f in
+    let boundaries = all-of _ f in
     record {
       edition = word 0 (omega arith) (omega arith);
       size = word 1 (omega arith) (omega arith);
@@ -116,8 +116,8 @@ header-back n X es q few x f =
       depths = word 5 (omega arith) (omega arith);
       discharges = word 6 (omega arith) (omega arith);
       masses = word 7 (omega arith) (omega arith);
-      left = ap (λ (y : List ℕ). boundaryAt y 32) flat ∙ boundary-back w (r ++ q) (leftEnd es) 32 lw (ends 0);
-      right = ap (λ (y : List ℕ). boundaryAt y 56) flat₂ ∙ boundary-back (w ++ l) q (rightEnd es) 56 lwl (ends 1);
+      left = ap (λ (y : List ℕ). boundaryAt y 32) flat ∙ boundary-back w (r ++ q) (leftBoundary es) 32 lw (boundaries 0);
+      right = ap (λ (y : List ℕ). boundaryAt y 56) flat₂ ∙ boundary-back (w ++ l) q (rightBoundary es) 56 lwl (boundaries 1);
     }
 
 -- ---- a sheet's pieces
@@ -133,7 +133,7 @@ module _ (s : Reach) where
   n = cells s
 
   abbrev head : List ℕ
-  head = headerBytes (cells s) (s .cellLength) (s .ends)
+  head = headerBytes (cells s) (s .cellLength) (s .boundaries)
 
   abbrev bedColumn : List ℕ
   bedColumn = columnBytes 4 (map (bits 4) (s .bed))
@@ -148,7 +148,7 @@ module _ (s : Reach) where
   massColumn = columnBytes 8 (s .mass)
 
   to-beds : length head ≡ bedsFrom n
-  to-beds = length-header (cells s) (s .cellLength) (s .ends)
+  to-beds = length-header (cells s) (s .cellLength) (s .boundaries)
 
   to-depths : length (head ++ bedColumn) ≡ depthsFrom n
   to-depths = length-append head bedColumn ∙ omega (arith, to-beds, length-column 4 (map (bits 4) (s .bed)), length-map (s .bed) (bits 4))
@@ -233,10 +233,10 @@ module _ (s : Reach) where
         ∙ column-back (λ v. v) 8 (((head ++ bedColumn) ++ depthColumn) ++ dischargeColumn) (s .mass) [] (s .mass) 0 (massesFrom n) n
         (to-masses columns) (k .masses) (k .masses) mass-small (λ i l. refl)
 
-    headed : Headed t n (s .cellLength) (s .ends)
+    headed : Headed t n (s .cellLength) (s .boundaries)
     unfolding sheetBytes
     headed =
-        header-back n (s .cellLength) (s .ends) (bedColumn ++ (depthColumn ++ (dischargeColumn ++ massColumn))) (k .few) (k .lengthMost) (k .boundaries)
+        header-back n (s .cellLength) (s .boundaries) (bedColumn ++ (depthColumn ++ (dischargeColumn ++ massColumn))) (k .few) (k .lengthMost) (k .boundaries)
 
 -- ---- a settled record
 
@@ -244,45 +244,45 @@ no-size : (z : ℤ) → natAbs z ≡ 0 → z ≡ pos 0
 no-size (pos n) e = ap pos e
 no-size (negsuc n) e = absurd (omega arith)
 
-settled-at : (c : List ℤ) → settledFits c ≡ true → (i : ℕ) → i < length c → getD c i (pos 0) ≡ pos 0
-unfolding settledFits
-settled-at c e i l = no-size (getD c i (pos 0)) (eqb-true _ _ (all-at (λ i. eqb (natAbs (getD c i (pos 0))) 0) (length c) i e l))
+transported-at : (c : List ℤ) → noneCarried c ≡ true → (i : ℕ) → i < length c → getD c i (pos 0) ≡ pos 0
+unfolding noneCarried
+transported-at c e i l = no-size (getD c i (pos 0)) (eqb-true _ _ (all-at (λ i. eqb (natAbs (getD c i (pos 0))) 0) (length c) i e l))
 
 -- with nothing carried, base depth and depth agree
 still : (h b : ℕ) (l r : ℤ) → CarriedSound h b l r → l ≡ pos 0 → r ≡ pos 0 → h ≡ b
 still h b l r k e f = let m = rw (e, f) at (k .balance) in omega (arith, m)
 
-settled-base : (s : Reach) → Sound s → settledFits (s .carried) ≡ true → s .depth ≡ s .base
-settled-base s k e =
+transported-base : (s : Reach) → Sound s → noneCarried (s .carried) ≡ true → s .depth ≡ s .base
+transported-base s k e =
     ext-getD 0 (s .depth) (s .base) (k .depths ∙ sym (k .bases))
     (λ i l.
     let j : i < cells s = omega (arith, k .depths) in
     still (depthAt s i) (baseAt s i) (carriedAt s i) (carriedAt s (i + 1)) (k .water i j)
-    (settled-at (s .carried) e i (omega (arith, k .interfaces))) (settled-at (s .carried) e (i + 1) (omega (arith, k .interfaces))))
+    (transported-at (s .carried) e i (omega (arith, k .interfaces))) (transported-at (s .carried) e (i + 1) (omega (arith, k .interfaces))))
 
-settled-none : (s : Reach) → Sound s → settledFits (s .carried) ≡ true → replicate (cells s + 1) (pos 0) ≡ s .carried
-settled-none s k e =
+transported-none : (s : Reach) → Sound s → noneCarried (s .carried) ≡ true → replicate (cells s + 1) (pos 0) ≡ s .carried
+transported-none s k e =
     let r = replicate (cells s + 1) (pos 0) in
     let lr = length-replicate (cells s + 1) (pos 0) in
     ext-getD (pos 0) r (s .carried) (lr ∙ sym (k .interfaces))
-    (λ i l. getD-replicate (cells s + 1) i (pos 0) (pos 0) (omega (arith, lr)) ∙ sym (settled-at (s .carried) e i (omega (arith, lr, k .interfaces))))
+    (λ i l. getD-replicate (cells s + 1) i (pos 0) (pos 0) (omega (arith, lr)) ∙ sym (transported-at (s .carried) e i (omega (arith, lr, k .interfaces))))
 
-pair : (es : List Boundary) → length es ≡ 2 → _≡_ {A = List Boundary} (leftEnd es ∷ rightEnd es ∷ []) es
+pair : (es : List Boundary) → length es ≡ 2 → _≡_ {A = List Boundary} (leftBoundary es ∷ rightBoundary es ∷ []) es
 pair [] e = absurd (omega arith)
 pair (a ∷ []) e = absurd (omega arith)
 pair (a ∷ b ∷ []) e = refl
 pair (a ∷ b ∷ c ∷ es) e = absurd (omega arith)
 
-ends-back : (t : List ℕ) (n X : ℕ) (es : List Boundary) → Headed t n X es → length es ≡ 2 → endsOf t ≡ es
-unfolding endsOf
-ends-back t n X es h two = ap₂ (λ (a b : Boundary). a ∷ b ∷ []) (h .left) (h .right) ∙ pair es two
+boundaries-back : (t : List ℕ) (n X : ℕ) (es : List Boundary) → Headed t n X es → length es ≡ 2 → boundariesOf t ≡ es
+unfolding boundariesOf
+boundaries-back t n X es h two = ap₂ (λ (a b : Boundary). a ∷ b ∷ []) (h .left) (h .right) ∙ pair es two
 
 same-reach : {z z′ : List ℤ} {h h′ : List ℕ} {q q′ : List ℤ} {m m′ b b′ : List ℕ} {c c′ : List ℤ} {X X′ : ℕ} {es es′ : List Boundary}
     → z ≡ z′ → h ≡ h′ → q ≡ q′ → m ≡ m′ → b ≡ b′ → c ≡ c′ → X ≡ X′ → es ≡ es′
     → reachOf z h q m b c X es emptyLedger ≡ reachOf z′ h′ q′ m′ b′ c′ X′ es′ emptyLedger
 same-reach e₁ e₂ e₃ e₄ e₅ e₆ e₇ e₈ = rw (e₁, e₂, e₃, e₄, e₅, e₆, e₇, e₈) refl
 
-record-back : (s : Reach) → Sound s → settledFits (s .carried) ≡ true → length (s .ends) ≡ 2 → sheetRecord (sheetBytes s) ≡ withEmptyLedger s
+record-back : (s : Reach) → Sound s → noneCarried (s .carried) ≡ true → length (s .boundaries) ≡ 2 → sheetRecord (sheetBytes s) ≡ withEmptyLedger s
 unfolding sheetRecord
 record-back s k e two =
     let t = sheetBytes s in
@@ -293,10 +293,10 @@ record-back s k e two =
     depths
     (ap₂ (λ (at n : ℕ). columnAt (twos 8) 8 t at n) (h .discharges) (h .count) ∙ discharges-back s k)
     (ap₂ (λ (at n : ℕ). columnAt (λ v. v) 8 t at n) (h .masses) (h .count) ∙ masses-back s k)
-    (depths ∙ settled-base s k e)
-    (ap (λ (n : ℕ). replicate (n + 1) (pos 0)) (h .count) ∙ settled-none s k e)
+    (depths ∙ transported-base s k e)
+    (ap (λ (n : ℕ). replicate (n + 1) (pos 0)) (h .count) ∙ transported-none s k e)
     (h .cellLength)
-    (ends-back t (cells s) (s .cellLength) (s .ends) h two)
+    (boundaries-back t (cells s) (s .cellLength) (s .boundaries) h two)
 
 -- ---- the grounds of an opening stand
 
@@ -357,17 +357,17 @@ no-grounds : firstRefusal [] ≡ Pass
 unfolding firstRefusal
 no-grounds = refl
 
-opens : (s l : Reach) → firstRefusal (recordGrounds s (s .ends)) ≡ Pass → settledFits (s .carried) ≡ true → length (s .ends) ≡ 2 → LentFor (cells s) l
+opens : (s l : Reach) → firstRefusal (recordGrounds s (s .boundaries)) ≡ Pass → noneCarried (s .carried) ≡ true → length (s .boundaries) ≡ 2 → LentFor (cells s) l
     → opening (sheetBytes s) l ≡ record { refusal = 0; reach = withEmptyLedger s }
 opens s l e f two lf =
     let t = sheetBytes s in
-    let g = stood (recordGrounds s (s .ends)) e in
-    let k = sound s (s .ends) e in
+    let g = stood (recordGrounds s (s .boundaries)) e in
+    let k = sound s (s .boundaries) e in
     let h = headed s k in
     let long = length-sheet s (columns s k) in
     let X = s .cellLength in
     let n = cells s in
-    let es = s .ends in
+    let es = s .boundaries in
     let same = record-back s k f two in
     let gs = openGrounds t (length (l .bed)) (length (l .depth)) (length (l .discharge)) (length (l .mass)) (length (l .base)) (length (l .carried)) in
     let passes : firstRefusal gs ≡ Pass =
@@ -376,7 +376,7 @@ opens s l e f two lf =
     (go-on _ _ (clear-stands t n X es h long)
     (go-on _ _ (lent-stands t n X es h long l lf)
     (go-on _ _ (ap cellLengthFits (h .cellLength) ∙ g 1)
-    (go-on _ _ (ap boundariesFit (ends-back t n X es h two) ∙ g 2)
+    (go-on _ _ (ap boundariesFit (boundaries-back t n X es h two) ∙ g 2)
     (go-on _ _ (ap (λ (r : Reach). cellsFit (r .bed) (r .depth) (r .discharge) (r .mass) (r .base)) same ∙ g 4)
     no-grounds)))))) in
     accepted t l passes ∙ ap (λ (r : Reach). record { refusal = 0; reach = r }) same
@@ -396,8 +396,8 @@ write-grounds s room e = e
 pub reads-back : ReadsBack
 reads-back s out l two pass lf =
     let e = write-grounds s (length out) pass in
-    let r = passed-first (recordGrounds s (s .ends)) _ e in
-    let k = sound s (s .ends) r in
+    let r = passed-first (recordGrounds s (s .boundaries)) _ e in
+    let k = sound s (s .boundaries) r in
     ap (λ (t : List ℕ). opening t l)
     (ap (take (sheetSize (cells s))) (output-passed s out pass)
     ∙ written-first (sheetBytes s) out (sheetSize (cells s)) (length-sheet s (columns s k)))
@@ -429,13 +429,13 @@ module _ (s : List ℕ) (bytes : AllBytes s) where
   unfolding columnAt tabulate
   eight-words n X es h = rw (h .edition, h .size, h .count, h .cellLength, h .beds, h .depths, h .discharges, h .masses) refl
 
-  header-again : (n X : ℕ) → Headed s n X (endsOf s) → 80 ≤ length s → boundariesFit (endsOf s) ≡ true → headerBytes n X (endsOf s) ≡ take 80 s
-  unfolding headerBytes endsOf boundariesFit
+  header-again : (n X : ℕ) → Headed s n X (boundariesOf s) → 80 ≤ length s → boundariesFit (boundariesOf s) ≡ true → headerBytes n X (boundariesOf s) ≡ take 80 s
+  unfolding headerBytes boundariesOf boundariesFit
   header-again n X h l f =
-      let ends = all-of _ f in
+      let boundaries = all-of _ f in
       let words = ap (columnBytes 4) (eight-words n X _ h) ∙ column-again 4 s 0 8 bytes (omega arith) in
-      let left = boundary-again 32 (omega arith) (ends 0) in
-      let right = boundary-again 56 (omega arith) (ends 1) in
+      let left = boundary-again 32 (omega arith) (boundaries 0) in
+      let right = boundary-again 56 (omega arith) (boundaries 1) in
       ap₂ (λ (a b : List ℕ). a ++ b) words (ap₂ (λ (a b : List ℕ). a ++ b) left right ∙ joined s 32 24 24 56 refl)
       ∙ joined s 0 32 48 32 refl
 
@@ -454,7 +454,7 @@ module _ (s : List ℕ) (bytes : AllBytes s) where
   unfolding sheetRecord columnAt
   cells-are = length-tabulate (countOf s) _
 
-  sheet-again : Headed s (countOf s) (cellLengthOf s) (endsOf s) → length s ≡ sheetSize (countOf s) → boundariesFit (endsOf s) ≡ true
+  sheet-again : Headed s (countOf s) (cellLengthOf s) (boundariesOf s) → length s ≡ sheetSize (countOf s) → boundariesFit (boundariesOf s) ≡ true
       → sheetBytes (sheetRecord s) ≡ s
   unfolding sheetBytes sheetRecord sheetSize
   sheet-again h l f =
@@ -470,26 +470,26 @@ module _ (s : List ℕ) (bytes : AllBytes s) where
       ∙ turned-again (twos 8) (bits 8) 8 s (80 + 8 * n) n bytes (omega arith) bits-twos8 in
       let masses : columnBytes 8 (columnAt (λ v. v) 8 s (massesAt s) n) ≡ take (8 * n) (drop (80 + 16 * n) s)
       = ap (λ (at : ℕ). columnBytes 8 (columnAt (λ v. v) 8 s at n)) (h .masses) ∙ column-again 8 s (80 + 16 * n) n bytes (omega arith) in
-      pieces n _ _ _ _ _ l (ap (λ (k : ℕ). headerBytes k X (endsOf s)) cells-are ∙ header-again n X h (omega arith) f) beds depths discharges masses
+      pieces n _ _ _ _ _ l (ap (λ (k : ℕ). headerBytes k X (boundariesOf s)) cells-are ∙ header-again n X h (omega arith) f) beds depths discharges masses
 
 -- ---- its record is written
 
-settled-replicate : (m : ℕ) → settledFits (replicate m (pos 0)) ≡ true
-unfolding settledFits
-settled-replicate m =
+transported-replicate : (m : ℕ) → noneCarried (replicate m (pos 0)) ≡ true
+unfolding noneCarried
+transported-replicate m =
     all-below _ (length (replicate m (pos 0)))
     (λ i l.
     eq-eqb (natAbs (getD (replicate m (pos 0)) i (pos 0))) 0
     (ap natAbs (getD-replicate m i (pos 0) (pos 0) (omega (arith, length-replicate m (pos 0))))))
 
-opened-settled : (s : List ℕ) → settledFits (sheetRecord s .carried) ≡ true
+opened-transported : (s : List ℕ) → noneCarried (sheetRecord s .carried) ≡ true
 unfolding sheetRecord
-opened-settled s = settled-replicate (countOf s + 1)
+opened-transported s = transported-replicate (countOf s + 1)
 
-write-passes : (r : Reach) (room : ℕ) → firstRefusal (recordGrounds r (r .ends)) ≡ Pass → settledFits (r .carried) ≡ true → sheetSize (cells r) ≤ room
+write-passes : (r : Reach) (room : ℕ) → firstRefusal (recordGrounds r (r .boundaries)) ≡ Pass → noneCarried (r .carried) ≡ true → sheetSize (cells r) ≤ room
     → writeRefusal r room ≡ Pass
 unfolding writeRefusal roomFits
-write-passes r room e f g = further (recordGrounds r (r .ends)) _ e ∙ go-on _ _ f (go-on _ _ (le-leb _ _ g) no-grounds)
+write-passes r room e f g = further (recordGrounds r (r .boundaries)) _ e ∙ go-on _ _ f (go-on _ _ (le-leb _ _ g) no-grounds)
 
 module _ (s : List ℕ) (l : Reach) where
   abbrev grounds : List Ground
@@ -551,8 +551,8 @@ in-place s long e o =
       masses = omega (arith, long, i, j, ab, bc, cd);
     }
 
-opened-headed : (s : List ℕ) → editionFits s ≡ true → sizeFits s ≡ true → InPlace s → Headed s (countOf s) (cellLengthOf s) (endsOf s)
-unfolding editionFits sizeFits endsOf
+opened-headed : (s : List ℕ) → editionFits s ≡ true → sizeFits s ≡ true → InPlace s → Headed s (countOf s) (cellLengthOf s) (boundariesOf s)
+unfolding editionFits sizeFits boundariesOf
 opened-headed s e f o = record {
   edition = eqb-true _ _ (all-of _ e 1);
   size = eqb-true _ _ (all-of _ f 3);
@@ -579,7 +579,7 @@ written-again sheet l out bytes order opened room =
     let k = opened-sound sheet _ _ _ _ _ _ p in
     let long = opened-long sheet (g 1) in
     let fits : writeRefusal r (length out) ≡ Pass
-    = write-passes r (length out) (stands r (r .ends) k (k .boundaries)) (opened-settled sheet)
+    = write-passes r (length out) (stands r (r .boundaries) k (k .boundaries)) (opened-transported sheet)
     (omega (arith, room, ap sheetSize (cells-are sheet b), long)) in
     let same : opening sheet l .reach ≡ r = ap (λ (o : Outcome). o .reach) (accepted sheet l p) in
     let again : sheetBytes r ≡ sheet = sheet-again sheet b (opened-headed sheet (g 0) (g 1) (in-place sheet long (g 2) order)) long (g 5) in

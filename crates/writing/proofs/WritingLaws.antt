@@ -14,7 +14,7 @@ use borrow.Author.Tests.{le-leb, lt-leb, leb-true}
 use borrow.Rule.Slice.PartMut.{putMid, same-len-mid}
 use borrow.Rule.Slice.PartAt.{part-to-end}
 use Rattle.numbers.specs.Signed.{positive}
-use Rattle.reach.specs.Reach.{Reach, cells, leftEnd, rightEnd}
+use Rattle.reach.specs.Reach.{Reach, cells, leftBoundary, rightBoundary}
 use Rattle.reach.specs.Grounds.{ground, firstRefusal, numberOf, passOr, recordGrounds}
 use Rattle.reach.specs.declared.boundary.Boundary.{Boundary}
 use Rattle.reach.specs.declared.refusal.Check.{Check}
@@ -23,8 +23,8 @@ use Rattle.reach.proofs.GroundsLaws.{stood, go-on, stop-at, last-one, further, 
 use Rattle.reach.proofs.Sound.{Sound, sound}
 use Rattle.sheet.specs.Header.{sheetSize}
 use Rattle.writing.specs.Bytes.{bytesOf, bitsIn, bits, columnBytes, written}
-use Rattle.writing.specs.Writing.{boundaryBytes, bedsFrom, depthsFrom, dischargesFrom, massesFrom, headerBytes, sheetBytes, settledFits, roomFits, writeGrounds, writeRefusal, outputBy, outputAfter, writtenWith, WriteCameTo}
-use Rattle.writing.specs.declared.write.Written.{Written}
+use Rattle.writing.specs.Writing.{boundaryBytes, bedsFrom, depthsFrom, dischargesFrom, massesFrom, headerBytes, sheetBytes, noneCarried, roomFits, writeGrounds, writeRefusal, outputBy, outputAfter, writtenWith, WriteCameTo}
+use Rattle.writing.specs.declared.write.WriteAnswer.{WriteAnswer}
 
 -- ---- two's complement, by the parts of the number
 
@@ -193,15 +193,15 @@ length-words n X = length-column 4 _
 
 pub header-written : (n X : ℕ) (es : List Boundary) (out₀ out1 ys1 ys2 : List ℕ)
     → out1 ≡ written (columnBytes 4 (1 ∷ sheetSize n ∷ n ∷ X ∷ bedsFrom n ∷ depthsFrom n ∷ dischargesFrom n ∷ massesFrom n ∷ [])) out₀
-    → ys1 ≡ written (boundaryBytes (leftEnd es)) (take (length out1 - 32) (drop 32 out1))
-    → ys2 ≡ written (boundaryBytes (rightEnd es)) (take (length (putMid 32 (length out1 - 32) out1 ys1) - 56) (drop 56 (putMid 32 (length out1 - 32) out1 ys1)))
+    → ys1 ≡ written (boundaryBytes (leftBoundary es)) (take (length out1 - 32) (drop 32 out1))
+    → ys2 ≡ written (boundaryBytes (rightBoundary es)) (take (length (putMid 32 (length out1 - 32) out1 ys1) - 56) (drop 56 (putMid 32 (length out1 - 32) out1 ys1)))
     → putMid 56 (length (putMid 32 (length out1 - 32) out1 ys1) - 56) (putMid 32 (length out1 - 32) out1 ys1) ys2 ≡ written (headerBytes n X es) out₀
 unfolding headerBytes
 header-written n X es out₀ out1 ys1 ys2 e0 e1 e2 =
     let p = columnBytes 4 (1 ∷ sheetSize n ∷ n ∷ X ∷ bedsFrom n ∷ depthsFrom n ∷ dischargesFrom n ∷ massesFrom n ∷ []) in
-    let l = boundaryBytes (leftEnd es) in
-    let r = boundaryBytes (rightEnd es) in
-    let lp : length (p ++ l) ≡ 56 = length-append p l ∙ omega (arith, length-words n X, length-boundary (leftEnd es)) in
+    let l = boundaryBytes (leftBoundary es) in
+    let r = boundaryBytes (rightBoundary es) in
+    let lp : length (p ++ l) ≡ 56 = length-append p l ∙ omega (arith, length-words n X, length-boundary (leftBoundary es)) in
     let step = written-part p l out₀ out1 ys1 32 (sym (length-words n X)) e0 e1 in
     written-part (p ++ l) r out₀ _ ys2 56 (sym lp) step e2 ∙ ap (λ (b : List ℕ). written b out₀) (append-assoc p l r)
 
@@ -209,15 +209,15 @@ pub length-header : (n X : ℕ) (es : List Boundary) → length (headerBytes n X
 unfolding headerBytes
 length-header n X es =
     let p = columnBytes 4 (1 ∷ sheetSize n ∷ n ∷ X ∷ bedsFrom n ∷ depthsFrom n ∷ dischargesFrom n ∷ massesFrom n ∷ []) in
-    let l = boundaryBytes (leftEnd es) in
-    let r = boundaryBytes (rightEnd es) in
-    length-append p (l ++ r) ∙ omega (arith, length-words n X, length-append l r, length-boundary (leftEnd es), length-boundary (rightEnd es))
+    let l = boundaryBytes (leftBoundary es) in
+    let r = boundaryBytes (rightBoundary es) in
+    length-append p (l ++ r) ∙ omega (arith, length-words n X, length-append l r, length-boundary (leftBoundary es), length-boundary (rightBoundary es))
 
 -- ---- the four columns, each from its own offset on
 module _ (s : Reach) (out₀ : List ℕ)
     (ld : length (s .depth) ≡ cells s) (lq : length (s .discharge) ≡ cells s) where
   pub sheet-written : (o1 o2 o3 o4 o5 : List ℕ)
-      → o1 ≡ written (headerBytes (cells s) (s .cellLength) (s .ends)) out₀
+      → o1 ≡ written (headerBytes (cells s) (s .cellLength) (s .boundaries)) out₀
       → o2 ≡ take 80 o1 ++ written (columnBytes 4 (map (bits 4) (s .bed))) (drop 80 o1)
       → o3 ≡ take (80 + 4 * cells s) o2 ++ written (columnBytes 4 (s .depth)) (drop (80 + 4 * cells s) o2)
       → o4 ≡ take (80 + 8 * cells s) o3 ++ written (columnBytes 8 (map (bits 8) (s .discharge))) (drop (80 + 8 * cells s) o3)
@@ -226,12 +226,12 @@ module _ (s : Reach) (out₀ : List ℕ)
   unfolding sheetBytes
   sheet-written o1 o2 o3 o4 o5 e1 e2 e3 e4 e5 =
       let n = cells s in
-      let p = headerBytes n (s .cellLength) (s .ends) in
+      let p = headerBytes n (s .cellLength) (s .boundaries) in
       let f1 = columnBytes 4 (map (bits 4) (s .bed)) in
       let f2 = columnBytes 4 (s .depth) in
       let f3 = columnBytes 8 (map (bits 8) (s .discharge)) in
       let f4 = columnBytes 8 (s .mass) in
-      let l1 = length-header n (s .cellLength) (s .ends) in
+      let l1 = length-header n (s .cellLength) (s .boundaries) in
       let k1 : length f1 ≡ 4 * n = length-column 4 (map (bits 4) (s .bed)) ∙ ap (λ (n : ℕ). 4 * n) (length-map (s .bed) (bits 4)) in
       let k2 : length f2 ≡ 4 * n = length-column 4 (s .depth) ∙ ap (λ (n : ℕ). 4 * n) ld in
       let k3 : length f3 ≡ 8 * n = length-column 8 (map (bits 8) (s .discharge)) ∙ ap (λ (n : ℕ). 8 * n) (length-map (s .discharge) (bits 8) ∙ lq) in
@@ -257,22 +257,22 @@ room-short n room l = lt-leb _ _ l
 
 -- ---- the grounds of a write, in checking order
 module _ (s : Reach) (room : ℕ) where
-  pub stopped-before : (n : ℕ) → firstRefusal (recordGrounds s (s .ends)) ≡ Refused n → writeRefusal s room ≡ Refused n
+  pub stopped-before : (n : ℕ) → firstRefusal (recordGrounds s (s .boundaries)) ≡ Refused n → writeRefusal s room ≡ Refused n
   unfolding writeRefusal
-  stopped-before n e = no-further (recordGrounds s (s .ends)) _ n e
+  stopped-before n e = no-further (recordGrounds s (s .boundaries)) _ n e
 
-  pub stopped-14 : firstRefusal (recordGrounds s (s .ends)) ≡ Pass → settledFits (s .carried) ≡ false → writeRefusal s room ≡ Refused 14
+  pub stopped-14 : firstRefusal (recordGrounds s (s .boundaries)) ≡ Pass → noneCarried (s .carried) ≡ false → writeRefusal s room ≡ Refused 14
   unfolding writeRefusal
-  stopped-14 e f = further (recordGrounds s (s .ends)) _ e ∙ stop-at (ground 14 (settledFits (s .carried))) _ f
+  stopped-14 e f = further (recordGrounds s (s .boundaries)) _ e ∙ stop-at (ground 14 (noneCarried (s .carried))) _ f
 
-  pub room-left : firstRefusal (recordGrounds s (s .ends)) ≡ Pass → settledFits (s .carried) ≡ true → writeRefusal s room ≡ passOr 15 (roomFits (cells s) room)
+  pub room-left : firstRefusal (recordGrounds s (s .boundaries)) ≡ Pass → noneCarried (s .carried) ≡ true → writeRefusal s room ≡ passOr 15 (roomFits (cells s) room)
   unfolding writeRefusal
-  room-left e f = further (recordGrounds s (s .ends)) _ e ∙ go-on (ground 14 (settledFits (s .carried))) _ f (last-one 15 _)
+  room-left e f = further (recordGrounds s (s .boundaries)) _ e ∙ go-on (ground 14 (noneCarried (s .carried))) _ f (last-one 15 _)
 
   -- what an accepted write tells
   pub write-sound : writeRefusal s room ≡ Pass → Sound s
   unfolding writeRefusal
-  write-sound e = sound s (s .ends) (passed-first (recordGrounds s (s .ends)) _ e)
+  write-sound e = sound s (s .boundaries) (passed-first (recordGrounds s (s .boundaries)) _ e)
 
   pub write-room : writeRefusal s room ≡ Pass → sheetSize (cells s) ≤ room
   unfolding writeRefusal roomFits
@@ -280,21 +280,21 @@ module _ (s : Reach) (room : ℕ) where
 
 -- ---- what each outcome of a write is
 module _ (s : Reach) (out : List ℕ) where
-  pub refused-write : (n : ℕ) (r : Written) → writeRefusal s (length out) ≡ Refused n → r ≡ writtenWith n (s .ends) (s .ledger) → WriteCameTo s out r out
+  pub refused-write : (n : ℕ) (r : WriteAnswer) → writeRefusal s (length out) ≡ Refused n → r ≡ writtenWith n (s .boundaries) (s .ledger) → WriteCameTo s out r out
   unfolding outputAfter
   refused-write n r e a = record {
-    refusal-is = ap (λ (r : Written). r .refusal) a ∙ sym (ap numberOf e);
-    ends-are = ap (λ (r : Written). r .ends) a;
-    ledger-is = ap (λ (r : Written). r .ledger) a;
+    refusal-is = ap (λ (r : WriteAnswer). r .refusal) a ∙ sym (ap numberOf e);
+    boundaries-are = ap (λ (r : WriteAnswer). r .boundaries) a;
+    ledger-is = ap (λ (r : WriteAnswer). r .ledger) a;
     output-is = sym (ap (λ (k : Check). outputBy k s out) e);
   }
 
   pub accepted-write : (out′ : List ℕ) → writeRefusal s (length out) ≡ Pass → out′ ≡ written (sheetBytes s) out
-      → WriteCameTo s out (writtenWith 0 (s .ends) (s .ledger)) out′
+      → WriteCameTo s out (writtenWith 0 (s .boundaries) (s .ledger)) out′
   unfolding outputAfter
   accepted-write out′ e a = record {
     refusal-is = sym (ap numberOf e);
-    ends-are = refl;
+    boundaries-are = refl;
     ledger-is = refl;
     output-is = a ∙ sym (ap (λ (k : Check). outputBy k s out) e);
   }

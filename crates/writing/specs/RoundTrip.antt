@@ -24,14 +24,14 @@ pub record LentFor (n : ℕ) (l : Reach) : Type 0 where
 
 -- the record with an empty book
 abbrev pub withEmptyLedger : Reach → Reach
-withEmptyLedger s = reachOf (s .bed) (s .depth) (s .discharge) (s .mass) (s .base) (s .carried) (s .cellLength) (s .ends) emptyLedger
+withEmptyLedger s = reachOf (s .bed) (s .depth) (s .discharge) (s .mass) (s .base) (s .carried) (s .cellLength) (s .boundaries) emptyLedger
 
 -- a record that a write accepts, so a settled one: the sheet in the output opens, in whatever columns are lent for its cells, as that
 -- record, all columns, X and boundaries, with an empty book. (The pair of boundaries is an array of two.)
 abbrev pub ReadsBack : Type 0
 ReadsBack =
     (s : Reach) (out : List ℕ) (l : Reach) →
-    length (s .ends) ≡ 2 →
+    length (s .boundaries) ≡ 2 →
     writeRefusal s (length out) ≡ Pass →
     LentFor (cells s) l →
     opening (take (sheetSize (cells s)) (outputAfter s out)) l ≡ record { refusal = 0; reach = withEmptyLedger s }

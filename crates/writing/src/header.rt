@@ -4,7 +4,7 @@ ghost use Prim.Native.Nat.{_≤_, _<_};
 ghost use lib.IntN.{natAbs};
 ghost use lib.ListN.{length};
 ghost use Rattle.reach.specs.Limits.{cellsMost};
-ghost use Rattle.reach.specs.Reach.{leftEnd, rightEnd};
+ghost use Rattle.reach.specs.Reach.{leftBoundary, rightBoundary};
 ghost use Rattle.sheet.specs.Header.{headerSize};
 ghost use Rattle.writing.specs.Bytes.{written};
 ghost use Rattle.writing.specs.Writing.{boundaryBytes, headerBytes};
@@ -26,10 +26,10 @@ fn put_boundary(out: &mut [u8], e: Boundary)
 }
 
 // The header of n cells, at the start of out
-pub fn put_header(out: &mut [u8], n: u64, x: u64, ends: [Boundary; 2])
+pub fn put_header(out: &mut [u8], n: u64, x: u64, boundaries: [Boundary; 2])
     requires { ⌜ (n ≤ cellsMost) × (headerSize ≤ length (now out)) ⌝ }
-    requires { ⌜ (natAbs (leftEnd ends .discharge) < 9_223_372_036_854_775_808) × (natAbs (rightEnd ends .discharge) < 9_223_372_036_854_775_808) ⌝ }
-    ensures { λ _. ⌜ now (out .exit) ≡ written (headerBytes n x ends) (now (out .entry)) ⌝ }
+    requires { ⌜ (natAbs (leftBoundary boundaries .discharge) < 9_223_372_036_854_775_808) × (natAbs (rightBoundary boundaries .discharge) < 9_223_372_036_854_775_808) ⌝ }
+    ensures { λ _. ⌜ now (out .exit) ≡ written (headerBytes n x boundaries) (now (out .entry)) ⌝ }
 {
     let first = HEADER_SIZE as u64;
     let words = [
@@ -43,8 +43,8 @@ pub fn put_header(out: &mut [u8], n: u64, x: u64, ends: [Boundary; 2])
         first + 16 * n,
     ];
     fill(out, 4, &words);
-    let left = ends[0];
+    let left = boundaries[0];
     put_boundary(&mut out[32..], left);
-    let right = ends[1];
+    let right = boundaries[1];
     put_boundary(&mut out[56..], right);
 }

@@ -5,12 +5,12 @@ ghost use Prim.Native.Nat.{ℕ, _≤_, _<_};
 ghost use lib.IntN.{pos, natAbs};
 ghost use lib.ListN.{length, getD};
 ghost use Rattle.reach.specs.Limits.{cellsMost};
-ghost use Rattle.reach.specs.Reach.{reachOf, leftEnd, rightEnd};
+ghost use Rattle.reach.specs.Reach.{reachOf, leftBoundary, rightBoundary};
 ghost use Rattle.reach.specs.Grounds.{numberOf, passOr};
 ghost use Rattle.sheet.specs.Header.{sheetSize};
 ghost use Rattle.sheet.specs.Opening.{emptyLedger};
 ghost use Rattle.writing.specs.Bytes.{written};
-ghost use Rattle.writing.specs.Writing.{sheetBytes, settledFits, roomFits, writeRefusal, writtenWith, WriteCameTo};
+ghost use Rattle.writing.specs.Writing.{sheetBytes, noneCarried, roomFits, writeRefusal, writtenWith, WriteCameTo};
 use super::bytes::put_column;
 use super::bytes::put_signed;
 use super::header::put_header;
@@ -25,20 +25,20 @@ use sheet::header::HEADER_SIZE;
 
 // What a write hands back: 0 or the number of its refusal, and the boundaries and the ledger as they came.
 #[repr(C)]
-pub struct Written {
+pub struct WriteAnswer {
     pub refusal: u32,
-    pub ends: [Boundary; 2],
+    pub boundaries: [Boundary; 2],
     pub ledger: Ledger,
 }
 
 // Ground 14
-fn check_settled(c: &[i64]) -> Check
-    ensures { λ r. ⌜ r ≡ passOr 14 (settledFits (now (c .entry))) ⌝ }
+fn check_none_carried(carried: &[i64]) -> Check
+    ensures { λ r. ⌜ r ≡ passOr 14 (noneCarried (now (carried .entry))) ⌝ }
 {
-    let n = c.len();
+    let n = carried.len();
     let mut i = 0;
     while i < n {
-        if magnitude(c[i]) != 0 {
+        if magnitude(carried[i]) != 0 {
             return Check::Refused(14);
         }
         i += 1;
@@ -58,94 +58,116 @@ fn check_room(n: usize, room: usize) -> Check
 }
 
 fn check_write(
-    z: &[i64],
-    h: &[u64],
-    q: &[i64],
-    m: &[u64],
-    b: &[u64],
-    c: &[i64],
+    bed: &[i64],
+    depth: &[u64],
+    discharge: &[i64],
+    mass: &[u64],
+    base: &[u64],
+    carried: &[i64],
     x: u64,
-    ends: [Boundary; 2],
+    boundaries: [Boundary; 2],
     ledger: Ledger,
     room: usize,
 ) -> Check
-    ensures { λ r. ⌜ r ≡ writeRefusal (reachOf (now (z .entry)) (now (h .entry)) (now (q .entry)) (now (m .entry)) (now (b .entry)) (now (c .entry)) x ends ledger) room ⌝ }
+    ensures { λ r. ⌜ r ≡ writeRefusal (reachOf (now (bed .entry)) (now (depth .entry)) (now (discharge .entry)) (now (mass .entry)) (now (base .entry)) (now (carried .entry)) x boundaries ledger) room ⌝ }
 {
-    let checked = check_record(z, h, q, m, b, c, x, ends, ledger, ends);
+    let checked = check_record(
+        bed,
+        depth,
+        discharge,
+        mass,
+        base,
+        carried,
+        x,
+        boundaries,
+        ledger,
+        boundaries,
+    );
     let Check::Pass = checked else {
         return checked;
     };
-    let Check::Pass = check_settled(c) else {
+    let Check::Pass = check_none_carried(carried) else {
         return Check::Refused(14);
     };
-    check_room(z.len(), room)
+    check_room(bed.len(), room)
 }
 
 // The whole sheet, at the start of out. Each column is filled from its own offset on. A sheet has no base depths, carried water or ledger.
 fn put_sheet(
     out: &mut [u8],
-    z: &[i64],
-    h: &[u64],
-    q: &[i64],
-    m: &[u64],
+    bed: &[i64],
+    depth: &[u64],
+    discharge: &[i64],
+    mass: &[u64],
     x: u64,
-    ends: [Boundary; 2],
+    boundaries: [Boundary; 2],
 )
-    requires { ⌜ (length (now z) ≤ cellsMost) × (sheetSize (length (now z)) ≤ length (now out)) ⌝ }
-    requires { ⌜ (length (now h) ≡ length (now z)) × ((length (now q) ≡ length (now z)) × (length (now m) ≡ length (now z))) ⌝ }
-    requires { ⌜ (natAbs (leftEnd ends .discharge) < 9_223_372_036_854_775_808) × (natAbs (rightEnd ends .discharge) < 9_223_372_036_854_775_808) ⌝ }
-    requires { ⌜ ((i : ℕ) → i < length (now z) → natAbs (getD (now z) i (pos 0)) < 2_147_483_648) ⌝ }
-    requires { ⌜ ((i : ℕ) → i < length (now q) → natAbs (getD (now q) i (pos 0)) < 9_223_372_036_854_775_808) ⌝ }
-    ensures { λ _. ⌜ now (out .exit) ≡ written (sheetBytes (reachOf (now (z .entry)) (now (h .entry)) (now (q .entry)) (now (m .entry)) [] [] x ends emptyLedger)) (now (out .entry)) ⌝ }
+    requires { ⌜ (length (now bed) ≤ cellsMost) × (sheetSize (length (now bed)) ≤ length (now out)) ⌝ }
+    requires { ⌜ (length (now depth) ≡ length (now bed)) × ((length (now discharge) ≡ length (now bed)) × (length (now mass) ≡ length (now bed))) ⌝ }
+    requires { ⌜ (natAbs (leftBoundary boundaries .discharge) < 9_223_372_036_854_775_808) × (natAbs (rightBoundary boundaries .discharge) < 9_223_372_036_854_775_808) ⌝ }
+    requires { ⌜ ((i : ℕ) → i < length (now bed) → natAbs (getD (now bed) i (pos 0)) < 2_147_483_648) ⌝ }
+    requires { ⌜ ((i : ℕ) → i < length (now discharge) → natAbs (getD (now discharge) i (pos 0)) < 9_223_372_036_854_775_808) ⌝ }
+    ensures { λ _. ⌜ now (out .exit) ≡ written (sheetBytes (reachOf (now (bed .entry)) (now (depth .entry)) (now (discharge .entry)) (now (mass .entry)) [] [] x boundaries emptyLedger)) (now (out .entry)) ⌝ }
 {
-    let n = z.len();
-    put_header(out, n as u64, x, ends);
-    put_signed(out, HEADER_SIZE, 4, HALF_4, z);
-    put_column(out, HEADER_SIZE + 4 * n, 4, h);
-    put_signed(out, HEADER_SIZE + 8 * n, 8, HALF_8, q);
-    put_column(out, HEADER_SIZE + 16 * n, 8, m);
+    let n = bed.len();
+    put_header(out, n as u64, x, boundaries);
+    put_signed(out, HEADER_SIZE, 4, HALF_4, bed);
+    put_column(out, HEADER_SIZE + 4 * n, 4, depth);
+    put_signed(out, HEADER_SIZE + 8 * n, 8, HALF_8, discharge);
+    put_column(out, HEADER_SIZE + 16 * n, 8, mass);
 }
 
-fn refused(k: Check, ends: [Boundary; 2], ledger: Ledger) -> Written
-    ensures { λ r. ⌜ r ≡ writtenWith (numberOf k) ends ledger ⌝ }
+fn refused(k: Check, boundaries: [Boundary; 2], ledger: Ledger) -> WriteAnswer
+    ensures { λ r. ⌜ r ≡ writtenWith (numberOf k) boundaries ledger ⌝ }
 {
     let Check::Refused(n) = k else {
-        return Written {
+        return WriteAnswer {
             refusal: 0,
-            ends,
+            boundaries,
             ledger,
         };
     };
-    Written {
+    WriteAnswer {
         refusal: n,
-        ends,
+        boundaries,
         ledger,
     }
 }
 
 // Writes a settled record as a sheet at the start of out.
 pub fn write_sheet(
-    z: &[i64],
-    h: &[u64],
-    q: &[i64],
-    m: &[u64],
-    b: &[u64],
-    c: &[i64],
+    bed: &[i64],
+    depth: &[u64],
+    discharge: &[i64],
+    mass: &[u64],
+    base: &[u64],
+    carried: &[i64],
     x: u64,
-    ends: [Boundary; 2],
+    boundaries: [Boundary; 2],
     ledger: Ledger,
     out: &mut [u8],
-) -> Written
-    ensures { λ r. ⌜ WriteCameTo (reachOf (now (z .entry)) (now (h .entry)) (now (q .entry)) (now (m .entry)) (now (b .entry)) (now (c .entry)) x ends ledger) (now (out .entry)) r (now (out .exit)) ⌝ }
+) -> WriteAnswer
+    ensures { λ r. ⌜ WriteCameTo (reachOf (now (bed .entry)) (now (depth .entry)) (now (discharge .entry)) (now (mass .entry)) (now (base .entry)) (now (carried .entry)) x boundaries ledger) (now (out .entry)) r (now (out .exit)) ⌝ }
 {
-    let checked = check_write(z, h, q, m, b, c, x, ends, ledger, out.len());
+    let checked = check_write(
+        bed,
+        depth,
+        discharge,
+        mass,
+        base,
+        carried,
+        x,
+        boundaries,
+        ledger,
+        out.len(),
+    );
     let Check::Pass = checked else {
-        return refused(checked, ends, ledger);
+        return refused(checked, boundaries, ledger);
     };
-    put_sheet(out, z, h, q, m, x, ends);
-    Written {
+    put_sheet(out, bed, depth, discharge, mass, x, boundaries);
+    WriteAnswer {
         refusal: 0,
-        ends,
+        boundaries,
         ledger,
     }
 }

@@ -107,14 +107,14 @@ int main(int argc, char **argv)
     jemmyfern_answer a = jemmyfern_write(COLUMNS, x, held, ledger, out, JEMMYFERN_SHEET_SIZE(n));
     print_answer("write", a.refusal, &a.ends, &a.ledger, 0, 0);
     jemmyfern_ends turned = {{held.ends[1], held.ends[0]}};
-    a = jemmyfern_set_ends(COLUMNS, x, held, ledger, turned);
+    a = jemmyfern_set_boundaries(COLUMNS, x, held, ledger, turned);
     print_answer("set", a.refusal, &a.ends, &a.ledger, 0, 0);
     held = a.ends;
     ledger = a.ledger;
     jemmyfern_stepped s = jemmyfern_step(COLUMNS, x, held, ledger, 1);
     print_answer("step", s.refusal, &s.ends, &s.ledger, s.settled, 0);
     ledger = s.ledger;
-    a = jemmyfern_settle(COLUMNS, x, held, ledger);
+    a = jemmyfern_transport(COLUMNS, x, held, ledger);
     print_answer("settle", a.refusal, &a.ends, &a.ledger, 0, 0);
     ledger = a.ledger;
     a = jemmyfern_write(COLUMNS, x, held, ledger, out, JEMMYFERN_SHEET_SIZE(n) - 1);

@@ -175,11 +175,11 @@ fn calls(sheet: &[u8]) -> String {
     let turned = Ends {
         ends: [held.ends[1], held.ends[0]],
     };
-    let a = call!(jemmyfern_set_ends, r, x, held, ledger, turned);
+    let a = call!(jemmyfern_set_boundaries, r, x, held, ledger, turned);
     r.print("set", a.refusal, &a.ends, &a.ledger, [0, 0]);
     held.ends = a.ends;
     ledger = r.step(x, held, a.ledger, 1);
-    let a = call!(jemmyfern_settle, r, x, held, ledger);
+    let a = call!(jemmyfern_transport, r, x, held, ledger);
     r.print("settle", a.refusal, &a.ends, &a.ledger, [0, 0]);
     r.write(x, held, a.ledger, sheet_size(n) - 1);
     r.write(x, held, a.ledger, sheet_size(n) + 10);

@@ -357,14 +357,14 @@ impl<'a> Reach<'a> {
 
     /// Moves the nutrient with the water carried since the last settling.
     pub fn settle(&mut self) -> Result<(), Refusal> {
-        let a = call!(jemmyfern_settle, &mut *self, as_ptr, as_mut_ptr);
+        let a = call!(jemmyfern_transport, &mut *self, as_ptr, as_mut_ptr);
         self.take(a)
     }
 
     /// Sets both ends, settling first under those held so far.
     pub fn set_ends(&mut self, ends: [Boundary; 2]) -> Result<(), Refusal> {
         let new = raw::Ends { ends };
-        let a = call!(jemmyfern_set_ends, &mut *self, as_ptr, as_mut_ptr, new);
+        let a = call!(jemmyfern_set_boundaries, &mut *self, as_ptr, as_mut_ptr, new);
         self.take(a)
     }
 

@@ -75,7 +75,7 @@ extern "C" {
         ledger: Ledger,
         t: u64,
     ) -> Stepped;
-    pub fn jemmyfern_settle(
+    pub fn jemmyfern_transport(
         bed: *const i64,
         bed_length: usize,
         depth: *const u64,
@@ -92,7 +92,7 @@ extern "C" {
         held: Ends,
         ledger: Ledger,
     ) -> Answer;
-    pub fn jemmyfern_set_ends(
+    pub fn jemmyfern_set_boundaries(
         bed: *const i64,
         bed_length: usize,
         depth: *const u64,

@@ -70,7 +70,7 @@ struct RawOpened {
 
 // A slice goes to C as a pointer and a length, bed level, depth, discharge, mass, base depth and carried water in this order.
 extern "C" {
-    fn jemmyfern_settle(
+    fn jemmyfern_transport(
         z: *const i64,
         zn: usize,
         h: *const u64,
@@ -87,7 +87,7 @@ extern "C" {
         held: Pair,
         ledger: Ledger,
     ) -> RawAnswer;
-    fn jemmyfern_set_ends(
+    fn jemmyfern_set_boundaries(
         z: *const i64,
         zn: usize,
         h: *const u64,
@@ -290,11 +290,11 @@ macro_rules! call {
 }
 
 pub fn settle(r: &mut Record) -> Answer {
-    answer(call!(jemmyfern_settle, r, as_ptr, as_mut_ptr))
+    answer(call!(jemmyfern_transport, r, as_ptr, as_mut_ptr))
 }
 
 pub fn set_ends(r: &mut Record, new: [End; 2]) -> Answer {
-    answer(call!(jemmyfern_set_ends, r, as_ptr, as_mut_ptr, pair(new)))
+    answer(call!(jemmyfern_set_boundaries, r, as_ptr, as_mut_ptr, pair(new)))
 }
 
 pub fn greatest_step(r: &Record) -> GreatestAnswer {

@@ -21,20 +21,20 @@ abbrev μ-loop : tie.MeasureT-loop
 cell : (c : tie.After-signal-speed Inv-loop μ-loop) →
     let a = c .before .before .before .before .before .before .args in
     let l = c .before .before .before .before .loop in
-    c .signal-speed .result ≡ speedAt (a .h .now) (a .q .now) (a .left) (a .right) (l .i + 1)
+    c .signal-speed .result ≡ speedAt (a .depth .now) (a .discharge .now) (a .left) (a .right) (l .i + 1)
 cell c =
     let a = c .before .before .before .before .before .before .args in
     let l = c .before .before .before .before .loop in
-    rw (toZ-ofZ (sfits-of (c .before .signal-speed-arg .given))) at (c .signal-speed .ensures .0) ∙ sym (speed-of-cell (a .h .now) (a .q .now) (a .left) (a .right) (l .i) (omega arith))
+    rw (toZ-ofZ (sfits-of (c .before .signal-speed-arg .given))) at (c .signal-speed .ensures .0) ∙ sym (speed-of-cell (a .depth .now) (a .discharge .now) (a .left) (a .right) (l .i) (omega arith))
 
 -- after the loop every cell is passed
 passed : (c : tie.After-loop Inv-loop μ-loop) →
     let a = c .before .before .before .args in
     let l = c .before .loop in
-    FastestIs (speedAt (a .h .now) (a .q .now) (a .left) (a .right)) (length (a .h .now)) (l .place) (l .speed)
+    FastestIs (speedAt (a .depth .now) (a .discharge .now) (a .left) (a .right)) (length (a .depth .now)) (l .place) (l .speed)
 passed c =
     let l = c .before .loop in
-    let all : l .i ≡ length (c .before .before .before .args .h .now) = omega arith in
+    let all : l .i ≡ length (c .before .before .before .args .depth .now) = omega arith in
     rw all at (l .inv .1)
 
 loop-holds : tie.Need-loop-holds Inv-loop μ-loop

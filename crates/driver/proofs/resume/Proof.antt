@@ -35,7 +35,7 @@ start c = c .before .before .before .before .before .before .before .before
 abbrev reach : tie.At-loop Inv-loop μ-loop → Reach
 reach c =
     let l = c .loop in
-    reachOf (l .z) (l .h) (l .q) (l .m) (l .b) (l .c) (l .cell-length) (l .pair) (l .held)
+    reachOf (l .bed) (l .depth) (l .discharge) (l .mass) (l .base) (l .carried) (l .cell-length) (l .pair) (l .held)
 
 loop-holds : tie.Need-loop-holds Inv-loop μ-loop
 loop-holds c =

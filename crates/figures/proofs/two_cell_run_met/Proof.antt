@@ -12,18 +12,18 @@ use Rattle.flux.specs.Wave.{waveSpeed}
 use Rattle.cfl.specs.Cfl.{signalSpeed, speedAt, meetsCfl}
 use Rattle.mass.specs.Transport.{cellShares, rightShare, leftShare, rightwards, leftwards, movedCell, movedMass}
 use Rattle.reach.specs.Grounds.{firstRefusal, lengthsFit, cellLengthFits, wallFits, openFits, fedFits, kindFits, boundaryFits, boundariesFit, cellFits, cellsFit, carriedFits, carriedCellsFit, shutFits, carriedFit, totalsFit, ledgerFits}
-use Rattle.transport.specs.Calls.{enteringLeft, enteringRight, withMass, ledgerWith, transportLedger, transported, setBoundaries, transport}
+use Rattle.transport.specs.Calls.{enteringLeft, enteringRight, withMass, ledgerWith, transportLedger, afterTransport, setBoundaries, transport}
 use Rattle.water.specs.Sides.{cellSide, boundarySide, leftSide, rightSide}
 use Rattle.water.specs.Water.{netAt, momentumAt, ownLeft, ownRight, newDepth, pushed, nearest, newDischarge}
 use Rattle.stepping.specs.GreatestStep.{boundarySpeed, placeSpeed}
-use Rattle.stepping.specs.Step.{summed, keepsSums, settledFirst, withWater, withEndWater, stepLedger, stepped, timeFits, depthsFit, step}
+use Rattle.stepping.specs.Step.{summed, keepsSums, transportedFirst, withWater, withBoundaryWater, stepLedger, afterStep, timeFits, depthsFit, step}
 use Rattle.figures.proofs.two_cell_run_met.Statement.{statement}
 use Rattle.figures.proofs.two_cell_run_met.Tie as tie
 
 returns : tie.Need-returns
-unfolding allOf allBelow tabulate squareRoot climb share shares rest maxℤ eqℤ upper lower waterOf waterFlux secondMoment momentumOf momentumFlux stillThrust reducedDepth leftDepth rightDepth netWater momentumSum mirrored velocity waveSpeed signalSpeed speedAt meetsCfl cellShares rightShare leftShare rightwards leftwards movedCell movedMass firstRefusal lengthsFit cellLengthFits wallFits openFits fedFits kindFits boundaryFits boundariesFit cellFits cellsFit carriedFits carriedCellsFit shutFits carriedFit totalsFit ledgerFits enteringLeft enteringRight withMass ledgerWith transportLedger transported setBoundaries transport cellSide boundarySide leftSide rightSide netAt momentumAt ownLeft ownRight newDepth pushed nearest newDischarge boundarySpeed placeSpeed summed keepsSums settledFirst withWater withEndWater stepLedger stepped timeFits depthsFit step
+unfolding allOf allBelow tabulate squareRoot climb share shares rest maxℤ eqℤ upper lower waterOf waterFlux secondMoment momentumOf momentumFlux stillThrust reducedDepth leftDepth rightDepth netWater momentumSum mirrored velocity waveSpeed signalSpeed speedAt meetsCfl cellShares rightShare leftShare rightwards leftwards movedCell movedMass firstRefusal lengthsFit cellLengthFits wallFits openFits fedFits kindFits boundaryFits boundariesFit cellFits cellsFit carriedFits carriedCellsFit shutFits carriedFit totalsFit ledgerFits enteringLeft enteringRight withMass ledgerWith transportLedger afterTransport setBoundaries transport cellSide boundarySide leftSide rightSide netAt momentumAt ownLeft ownRight newDepth pushed nearest newDischarge boundarySpeed placeSpeed summed keepsSums transportedFirst withWater withBoundaryWater stepLedger afterStep timeFits depthsFit step
 returns c = (
-  record { step-accepted = refl; settling-accepted = refl; depths = refl; discharges = refl; masses = refl; ledger-empty = refl },
+  record { step-accepted = refl; transporting-accepted = refl; depths = refl; discharges = refl; masses = refl; ledger-empty = refl },
   record { t-260 = refl; t-261 = refl },
 )
 

@@ -18,8 +18,8 @@ right-part-requires c κs = search needs
 left-part-requires : tie.Need-left-part-requires
 left-part-requires c κs = search needs
 
-crossing-of-requires : tie.Need-crossing-of-requires
-crossing-of-requires c κs =
+fluxes-of-requires : tie.Need-fluxes-of-requires
+fluxes-of-requires c κs =
     let s = c .before .before .before in
     let f = s .fits .u in
     let k = abs-parts (s .args .u) in
@@ -45,7 +45,7 @@ returns c =
     let r = rw (toZ-ofZ f) at (c .before .before .before .right-part .ensures) in
     let l = rw (toZ-ofZ f) at (c .before .before .left-part .ensures) in
     let e = ap₂ subℕ r l ∙ sym (parts u) in
-    let x = c .before .crossing-of .ensures in (
+    let x = c .before .fluxes-of .ensures in (
       x .0 ∙ ap (λ (v : ℤ). waterFlux (s .args .t) (s .args .x) (s .args .h) v) e,
       (x .1 ∙ ap (λ (v : ℤ). momentumFlux (s .args .t) (s .args .x) (s .args .h) v) e, c .still-thrust .ensures),
     )
@@ -57,6 +57,6 @@ harness-side-spec =
     wave-speed-requires
     right-part-requires
     left-part-requires
-    crossing-of-requires
+    fluxes-of-requires
     still-thrust-requires
     returns)

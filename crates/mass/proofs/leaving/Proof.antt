@@ -9,7 +9,7 @@ use mir.Facts.{toZ-ofZ}
 use borrow.Author.Needs.{sfits-of}
 use Rattle.numbers.specs.Shares.{share}
 use Rattle.numbers.specs.Signed.{positive}
-use Rattle.mass.specs.Transport.{Columns, columns, outRight, outLeft}
+use Rattle.mass.specs.Transport.{MassColumns, massColumns, outRight, outLeft}
 use Rattle.mass.proofs.TransportLaws.{right-share-is, left-share-is, leftwards-cell, leftwards-end}
 use borrow.Author.Needs.{needs}
 use Rattle.mass.proofs.leaving.Statement.{statement}
@@ -18,8 +18,8 @@ use Rattle.mass.proofs.leaving.Tie as tie
 abbrev entry : tie.After-left-part → tie.Start
 entry c = c .before .before .before .before .before .before .before .before .before
 
-abbrev col : tie.Start → Columns
-col s = columns (now (s .args .m)) (now (s .args .b)) (now (s .args .c)) 0 (s .args .right-in)
+abbrev col : tie.Start → MassColumns
+col s = massColumns (now (s .args .mass)) (now (s .args .base)) (now (s .args .carried)) 0 (s .args .right-in)
 
 right-is : (c : tie.After-left-part) → c .before .before .right-part .result ≡ outRight (col (entry c)) (entry c .args .i)
 right-is c = rw (toZ-ofZ (sfits-of (c .before .before .before .right-part-arg .given))) at (c .before .before .right-part .ensures)

@@ -7,14 +7,14 @@ use native.Mathlib.Omega.{arith}
 use borrow.Author.Needs.{needs}
 use lib.ListN.{length, getD}
 use Rattle.numbers.proofs.IndexLaws.{Written, written-none, written-more, written-all}
-use Rattle.mass.specs.Transport.{Columns, columns, rightShare, leftShare, leftwards, rightwards, movedCell, movedMass}
+use Rattle.mass.specs.Transport.{MassColumns, massColumns, rightShare, leftShare, leftwards, rightwards, movedCell, movedMass}
 use Rattle.mass.proofs.TransportLaws.{rightwards-next, leftwards-cell, moved-is, shares-fit, mass-small, leftwards-small, rightwards-small, ready-same, right-share-same, leftwards-same}
 use Rattle.mass.proofs.move_mass.Statement.{statement}
 use Rattle.mass.proofs.move_mass.Tie as tie
 
 abbrev Inv-loop : tie.InvT-loop
 Inv-loop m₀ b c left-in right-in n from-left₀ out₀ i₀ m from-left out i =
-    let s = columns m₀ b c left-in right-in in
+    let s = massColumns m₀ b c left-in right-in in
     (i ≤ n)
     × Written 0 (movedCell s) m₀ i m
     × (from-left ≡ rightwards s i)
@@ -24,8 +24,8 @@ Inv-loop m₀ b c left-in right-in n from-left₀ out₀ i₀ m from-left out i 
 abbrev μ-loop : tie.MeasureT-loop
 μ-loop m₀ b c left-in right-in n from-left₀ out₀ i₀ m from-left out i = n - i
 
-abbrev col : tie.Start Inv-loop μ-loop → Columns
-col s = columns (now (s .args .m)) (now (s .args .b)) (now (s .args .c)) (s .args .left-in) (s .args .right-in)
+abbrev col : tie.Start Inv-loop μ-loop → MassColumns
+col s = massColumns (now (s .args .mass)) (now (s .args .base)) (now (s .args .carried)) (s .args .left-in) (s .args .right-in)
 
 abbrev entry : tie.After-leaving2 Inv-loop μ-loop → tie.Start Inv-loop μ-loop
 entry c = c .before .before .before .before .before .before .before .before
@@ -41,7 +41,7 @@ next-left c =
     let w = c .before .before .before .loop .inv .1 in
     c .leaving2 .ensures .0 ∙ leftwards-same _ _ _ _ 0 (entry c .args .left-in) _ (w .long) (at c + 1) (w .same (at c + 1) (omega arith))
 
-next-right : (c : tie.After-leaving2 Inv-loop μ-loop) → at c + 1 < length (now (entry c .args .m)) → c .leaving2 .result .right ≡ rightShare (col (entry c)) (at c + 1)
+next-right : (c : tie.After-leaving2 Inv-loop μ-loop) → at c + 1 < length (now (entry c .args .mass)) → c .leaving2 .result .right ≡ rightShare (col (entry c)) (at c + 1)
 next-right c l =
     let w = c .before .before .before .loop .inv .1 in
     c .leaving2 .ensures .1 (omega (arith, w .long))
@@ -117,11 +117,11 @@ moved-requires c κs =
     let h = c .before .before .before .before .loop .inv .1 .same (c .before .before .before .before .loop .i) (omega arith) in
     (omega arith, (omega arith, (omega arith, omega arith)))
 
-mul-m : tie.Need-mul-m Inv-loop μ-loop
-mul-m c = search needs
+mul-mass : tie.Need-mul-mass Inv-loop μ-loop
+mul-mass c = search needs
 
-slice-write-m : tie.Need-slice-write-m Inv-loop μ-loop
-slice-write-m c = search needs
+slice-write-mass : tie.Need-slice-write-mass Inv-loop μ-loop
+slice-write-mass c = search needs
 
 add-i : tie.Need-add-i Inv-loop μ-loop
 add-i c = search needs
@@ -152,7 +152,7 @@ unfolding movedMass
 returns c =
     let w = c .before .loop .inv in
     let s = col (c .before .before .before .before .before .before) in
-    written-all 0 (movedCell s) (s .mass) (c .before .loop .i) (c .before .loop .m) (w .1) (omega arith)
+    written-all 0 (movedCell s) (s .mass) (c .before .loop .i) (c .before .loop .mass) (w .1) (omega arith)
 
 pub move-mass-spec : {M : Type 1} → statement M
 move-mass-spec =
@@ -167,8 +167,8 @@ move-mass-spec =
     mul-moved
     slice-read-moved
     moved-requires
-    mul-m
-    slice-write-m
+    mul-mass
+    slice-write-mass
     add-i
     loop-less
     loop-again

@@ -12,7 +12,7 @@ use Rattle.sheet.specs.Opening.{lent, opening}
 use Rattle.play.specs.Play.{steps, played}
 use Rattle.play.specs.Ranges.{PlayedTo}
 use Rattle.sheet.proofs.OpeningLaws.{left-by-opening}
-use Rattle.play.proofs.PlayLaws.{left-by-transport, left, not-opened, too-many, not-stepped, settled}
+use Rattle.play.proofs.PlayLaws.{left-by-transport, left, not-opened, too-many, not-stepped, transported}
 use Rattle.play.proofs.play.Statement.{statement}
 use Rattle.play.proofs.play.Tie as tie
 
@@ -20,7 +20,7 @@ abbrev sheet : tie.Start → List ℕ
 sheet s = now (s .args .s)
 
 abbrev columns : tie.Start → Reach
-columns s = lent (now (s .args .z)) (now (s .args .h)) (now (s .args .q)) (now (s .args .m)) (now (s .args .b)) (now (s .args .c))
+columns s = lent (now (s .args .bed)) (now (s .args .depth)) (now (s .args .discharge)) (now (s .args .mass)) (now (s .args .base)) (now (s .args .carried))
 
 abbrev entry : tie.After-open-sheet → tie.Start
 entry c = c .before .before .before .before .before .before .before .before .before .before .before
@@ -32,14 +32,14 @@ accepted : (c : tie.Else1) → opened (c .before .before .before .before .before
 accepted c = sym (c .before .before .before .before .before .before .before .before .before .before .before .before .before .open-sheet .ensures .refusal-is) ∙ c .if1 .left
 
 -- the steps from the record that the opening left
-abbrev stepped : tie.After-run-steps → Outcome
-stepped c = steps (entry (c .before .before .before .before .before .before .before .before .before .before .before .before .before .before .before .before .before .before .before .before .before) .args .count) (entry (c .before .before .before .before .before .before .before .before .before .before .before .before .before .before .before .before .before .before .before .before .before) .args .t) (opened (c .before .before .before .before .before .before .before .before .before .before .before .before .before .before .before .before .before .before .before .before .before) .reach)
+abbrev afterStep : tie.After-run-steps → Outcome
+afterStep c = steps (entry (c .before .before .before .before .before .before .before .before .before .before .before .before .before .before .before .before .before .before .before .before .before) .args .count) (entry (c .before .before .before .before .before .before .before .before .before .before .before .before .before .before .before .before .before .before .before .before .before) .args .t) (opened (c .before .before .before .before .before .before .before .before .before .before .before .before .before .before .before .before .before .before .before .before .before) .reach)
 
 from-opening : (c : tie.After-run-steps) →
     let w = c .before .before .before .before .before .before .before .before .before .before .before .before .before .before .before .before .before .before .before .before .before .open-sheet in
     let a = entry (c .before .before .before .before .before .before .before .before .before .before .before .before .before .before .before .before .before .before .before .before .before) .args in
-    steps (a .count) (a .t) (reachOf (w .last .1 .0) (w .last .1 .1 .0) (w .last .1 .1 .1 .0) (w .last .1 .1 .1 .1 .0) (w .last .1 .1 .1 .1 .1 .0) (w .last .1 .1 .1 .1 .1 .1 .0) (w .result .«cell_length») (w .result .ends) (w .result .ledger))
-    ≡ stepped c
+    steps (a .count) (a .t) (reachOf (w .last .1 .0) (w .last .1 .1 .0) (w .last .1 .1 .1 .0) (w .last .1 .1 .1 .1 .0) (w .last .1 .1 .1 .1 .1 .0) (w .last .1 .1 .1 .1 .1 .1 .0) (w .result .«cell_length») (w .result .boundaries) (w .result .ledger))
+    ≡ afterStep c
 from-opening c =
     let a = entry (c .before .before .before .before .before .before .before .before .before .before .before .before .before .before .before .before .before .before .before .before .before) .args in
     ap (steps (a .count) (a .t)) (left-by-opening (c .before .before .before .before .before .before .before .before .before .before .before .before .before .before .before .before .before .before .before .before .before .open-sheet .ensures))
@@ -134,7 +134,7 @@ returns-3 c =
     let w = c .before .before .before .before .before .before .before .before .before .before .before .before .before .before .before .before .before .before .before .before .before .before .before .before .before .before .before .before .before .before .before .before .before in
     let s = entry w in
     let e = k .run-steps .ensures .refusal-is ∙ ap (λ (o : Outcome). o .refusal) (from-opening k) in
-    let n : stepped k .refusal ≡ 0 → ⊥ = λ z. c .before .if3 .taken (e ∙ z) in
+    let n : afterStep k .refusal ≡ 0 → ⊥ = λ z. c .before .if3 .taken (e ∙ z) in
     rw (not-stepped (sheet s) (columns s) (s .args .count) (s .args .t) (accepted (c .before .before .before .before .before .before .before .before .before .before .before .before .before .before .before .before .before .before .before .before)) (c .before .before .before .before .before .before .before .before .before .before .before .before .before .before .before .before .before .before .before .if2 .left) n)
     (left _ _ _ _ _ _ _ _ (c .came-to3 .ensures .0 ∙ e) (c .came-to3 .ensures .1) (k .run-steps .ensures .reach-is ∙ ap (λ (o : Outcome). o .reach) (from-opening k)))
 
@@ -168,10 +168,10 @@ returns-4 c =
     let w = c .before .before .before .before .before .before .before .before .before .before .before .before .before .before .before .before .before .before .before .before .before .before .before .before .before .before .before .before .before .before .before .before .before .before .before .before .before .before .before .before .before .before .before .before .before in
     let s = entry w in
     let e = k .run-steps .ensures .refusal-is ∙ ap (λ (o : Outcome). o .refusal) (from-opening k) in
-    let z : stepped k .refusal ≡ 0 = sym e ∙ c .before .before .before .before .before .before .before .before .before .before .before .before .before .if3 .left in
+    let z : afterStep k .refusal ≡ 0 = sym e ∙ c .before .before .before .before .before .before .before .before .before .before .before .before .before .if3 .left in
     let r = k .run-steps .ensures .reach-is ∙ ap (λ (o : Outcome). o .reach) (from-opening k) in
     let a = c .before .before .before .before .before .before .transport .ensures in
-    let o = settled (sheet s) (columns s) (s .args .count) (s .args .t) (accepted (c .before .before .before .before .before .before .before .before .before .before .before .before .before .before .before .before .before .before .before .before .before .before .before .before .before .before .before .before .before .before .before .before)) (c .before .before .before .before .before .before .before .before .before .before .before .before .before .before .before .before .before .before .before .before .before .before .before .before .before .before .before .before .before .before .before .if2 .left) z ∙ ap transport (sym r) in
+    let o = transported (sheet s) (columns s) (s .args .count) (s .args .t) (accepted (c .before .before .before .before .before .before .before .before .before .before .before .before .before .before .before .before .before .before .before .before .before .before .before .before .before .before .before .before .before .before .before .before)) (c .before .before .before .before .before .before .before .before .before .before .before .before .before .before .before .before .before .before .before .before .before .before .before .before .before .before .before .before .before .before .before .if2 .left) z ∙ ap transport (sym r) in
     rw o (left _ _ _ _ _ _ _ _ (c .came-to4 .ensures .0 ∙ a .refusal-is) (c .came-to4 .ensures .1) (left-by-transport _ a))
 
 pub play-spec : {M : Type 1} → statement M

@@ -14,9 +14,9 @@ use Rattle.play.proofs.run_steps.Statement.{statement}
 use Rattle.play.proofs.run_steps.Tie as tie
 
 abbrev Inv-loop : tie.InvT-loop
-Inv-loop z h₀ q₀ m₀ b₀ c₀ x ends count t held₀ i₀ h q m b c held i =
+Inv-loop z h₀ q₀ m₀ b₀ c₀ x boundaries count t held₀ i₀ h q m b c held i =
     (i ≤ count)
-    × (steps count t (reachOf z h₀ q₀ m₀ b₀ c₀ x ends held₀) ≡ steps (count - i) t (reachOf z h q m b c x ends held))
+    × (steps count t (reachOf z h₀ q₀ m₀ b₀ c₀ x boundaries held₀) ≡ steps (count - i) t (reachOf z h q m b c x boundaries held))
     × (length h ≡ length h₀)
     × (length q ≡ length q₀)
     × (length m ≡ length m₀)
@@ -24,7 +24,7 @@ Inv-loop z h₀ q₀ m₀ b₀ c₀ x ends count t held₀ i₀ h q m b c held i
     × (length c ≡ length c₀)
 
 abbrev μ-loop : tie.MeasureT-loop
-μ-loop z h₀ q₀ m₀ b₀ c₀ x ends count t held₀ i₀ h q m b c held i = count - i
+μ-loop z h₀ q₀ m₀ b₀ c₀ x boundaries count t held₀ i₀ h q m b c held i = count - i
 
 abbrev start : tie.At-loop Inv-loop μ-loop → tie.Start Inv-loop μ-loop
 start c = c .before .before .before .before
@@ -33,7 +33,7 @@ start c = c .before .before .before .before
 abbrev reach : tie.At-loop Inv-loop μ-loop → Reach
 reach c =
     let l = c .loop in
-    reachOf (now (start c .args .z)) (l .h) (l .q) (l .m) (l .b) (l .c) (start c .args .x) (start c .args .ends) (l .held)
+    reachOf (now (start c .args .bed)) (l .depth) (l .discharge) (l .mass) (l .base) (l .carried) (start c .args .x) (start c .args .boundaries) (l .held)
 
 loop-holds : tie.Need-loop-holds Inv-loop μ-loop
 loop-holds c =

@@ -18,7 +18,7 @@ use Rattle.reach.proofs.check_record.Tie as tie
 abbrev grounds : tie.Start → List Ground
 grounds s =
     let a = s .args in
-    recordGrounds (reachOf (now (a .z)) (now (a .h)) (now (a .q)) (now (a .m)) (now (a .b)) (now (a .c)) (a .x) (a .t8) (a .ledger)) (a .given)
+    recordGrounds (reachOf (now (a .bed)) (now (a .depth)) (now (a .discharge)) (now (a .mass)) (now (a .base)) (now (a .carried)) (a .x) (a .t8) (a .ledger)) (a .given)
 
 abbrev Stands : ℕ → tie.Start → Type 0
 Stands k s = getD (grounds s) k (ground 0 true) .stands ≡ true

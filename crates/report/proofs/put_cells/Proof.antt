@@ -64,7 +64,7 @@ same-length c = c .before .loop .inv .2 .put .long
 returns : tie.Need-returns Inv-loop μ-loop
 returns c =
     let l = c .before .loop in
-    let e : l .i ≡ length (now (c .before .before .before .before .before .args .h)) = omega (arith, l .inv .0) in
+    let e : l .i ≡ length (now (c .before .before .before .before .before .args .depth)) = omega (arith, l .inv .0) in
     let w = rw e at (l .inv .2) in
     ((w .next-is, omega (arith, l .inv .1, e)), w .put)
 

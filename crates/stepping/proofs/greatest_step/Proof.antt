@@ -20,7 +20,7 @@ start c = entry (c .before .before)
 
 abbrev reach : tie.Start → Reach
 reach s =
-    reachOf (now (s .args .z)) (now (s .args .h)) (now (s .args .q)) (now (s .args .m)) (now (s .args .b)) (now (s .args .c)) (s .args .x) (s .args .t8) (s .args .ledger)
+    reachOf (now (s .args .bed)) (now (s .args .depth)) (now (s .args .discharge)) (now (s .args .mass)) (now (s .args .base)) (now (s .args .carried)) (s .args .x) (s .args .t8) (s .args .ledger)
 
 passed : (c : tie.After-enum-told) → firstRefusal (recordGrounds (reach (start c)) (start c .args .t8)) ≡ Pass
 passed c = sym (c .before .before .check-record .ensures) ∙ c .enum-told .given .1

@@ -3,16 +3,16 @@ use mathlib.Core.Path.{_≡_, refl, sym, ap, ap₂, _∙_, subst}
 use Prim.Native.Nat.{ℕ}
 use denote.Ref.{now}
 use native.Mathlib.Omega.{arith}
-use Rattle.mass.specs.Transport.{Columns, columns, movedMass}
+use Rattle.mass.specs.Transport.{MassColumns, massColumns, movedMass}
 use Rattle.mass.specs.Ranges.{Ready}
 use Rattle.reach.specs.Reach.{Reach, reachOf}
 use Rattle.reach.specs.Grounds.{firstRefusal, recordGrounds, ledgerFits, numberOf}
 use Rattle.reach.specs.declared.ledger.Ledger.{Ledger}
 use Rattle.reach.specs.declared.refusal.Check.the-variants.{Pass}
 use Rattle.reach.proofs.Sound.{Sound, sound}
-use Rattle.transport.specs.Calls.{columnsOf, answer, ledgerWith, transportLedger, transported}
-use Rattle.transport.specs.Ranges.{Crosses}
-use Rattle.transport.proofs.CallsLaws.{ready, columns-with, small, ledger-is, stopped, full, accepted, entered-refused, entered-booked}
+use Rattle.transport.specs.Calls.{massColumnsOf, answer, ledgerWith, transportLedger, afterTransport}
+use Rattle.transport.specs.Ranges.{BoundaryMassOf}
+use Rattle.transport.proofs.CallsLaws.{ready, columns-with, small, ledger-is, stopped, full, accepted, entered-refused, entered-accepted}
 use borrow.Author.Needs.{needs}
 use Rattle.transport.proofs.set_boundaries.Statement.{statement}
 use Rattle.transport.proofs.set_boundaries.Tie as tie
@@ -23,12 +23,12 @@ entry c = c .before .before .before .before .before .before .before
 abbrev start : tie.After-enum-told → tie.Start
 start c = entry (c .before .before)
 
-abbrev told : tie.After-crossed-of → tie.After-enum-told
+abbrev told : tie.After-boundary-mass-of → tie.After-enum-told
 told c = c .before .before .before .before
 
 abbrev reach : tie.Start → Reach
 reach s =
-    reachOf (now (s .args .z)) (now (s .args .h)) (now (s .args .q)) (now (s .args .m)) (now (s .args .b)) (now (s .args .c)) (s .args .x) (s .args .ends) (s .args .ledger)
+    reachOf (now (s .args .bed)) (now (s .args .depth)) (now (s .args .discharge)) (now (s .args .mass)) (now (s .args .base)) (now (s .args .carried)) (s .args .x) (s .args .boundaries) (s .args .ledger)
 
 passed : (c : tie.After-enum-told) → firstRefusal (recordGrounds (reach (start c)) (start c .args .given)) ≡ Pass
 passed c = sym (c .before .before .check-record .ensures) ∙ c .enum-told .given .1
@@ -36,35 +36,35 @@ passed c = sym (c .before .before .check-record .ensures) ∙ c .enum-told .give
 checked : (c : tie.After-enum-told) → Sound (reach (start c))
 checked c = sound (reach (start c)) (start c .args .given) (passed c)
 
-crossed : (c : tie.After-crossed-of) →
-    let x = c .crossed-of .result in
-    Crosses (columnsOf (reach (start (told c)))) (x .«left_in») (x .«left_out») (x .«right_in») (x .«right_out»)
+crossed : (c : tie.After-boundary-mass-of) →
+    let x = c .boundary-mass-of .result in
+    BoundaryMassOf (massColumnsOf (reach (start (told c)))) (x .«left_in») (x .«left_out») (x .«right_in») (x .«right_out»)
 crossed c =
-    let x = c .crossed-of .result in
-    subst (λ (s : Columns). Crosses s (x .«left_in») (x .«left_out») (x .«right_in») (x .«right_out»))
+    let x = c .boundary-mass-of .result in
+    subst (λ (s : MassColumns). BoundaryMassOf s (x .«left_in») (x .«left_out») (x .«right_in») (x .«right_out»))
     (columns-with (reach (start (told c))) (checked (told c)))
-    (c .crossed-of .ensures)
+    (c .boundary-mass-of .ensures)
 
-booked : (c : tie.After-crossed-of) →
-    let x = c .crossed-of .result in
+ledger-entered : (c : tie.After-boundary-mass-of) →
+    let x = c .boundary-mass-of .result in
     ledgerWith (start (told c) .args .ledger) (x .«left_in») (x .«left_out») (x .«right_in») (x .«right_out») ≡ transportLedger (reach (start (told c)))
-booked c = ledger-is (reach (start (told c))) (checked (told c)) _ _ _ _ (crossed c)
+ledger-entered c = ledger-is (reach (start (told c))) (checked (told c)) _ _ _ _ (crossed c)
 
 -- the columns with what enters, as the code computed it
-entering : (c : tie.After-crossed-of) →
+entering : (c : tie.After-boundary-mass-of) →
     let s = reach (start (told c)) in
-    let x = c .crossed-of .result in
-    columnsOf s ≡ columns (s .mass) (s .base) (s .carried) (x .«left_in») (x .«right_in»)
+    let x = c .boundary-mass-of .result in
+    massColumnsOf s ≡ massColumns (s .mass) (s .base) (s .carried) (x .«left_in») (x .«right_in»)
 entering c =
     let s = reach (start (told c)) in
-    sym (ap₂ (λ (l r : ℕ). columns (s .mass) (s .base) (s .carried) l r) (crossed c .left-in) (crossed c .right-in))
+    sym (ap₂ (λ (l r : ℕ). massColumns (s .mass) (s .base) (s .carried) l r) (crossed c .left-in) (crossed c .right-in))
 
 answered-by : (c : tie.After-refused) →
     let s = entry (c .before .before .before) .args in
-    c .refused .result ≡ answer (c .before .enum-told2 .given .0 .0) (s .ends) (s .ledger)
+    c .refused .result ≡ answer (c .before .enum-told2 .given .0 .0) (s .boundaries) (s .ledger)
 answered-by c =
     let s = entry (c .before .before .before) .args in
-    c .refused .ensures ∙ ap (λ k. answer (numberOf k) (s .ends) (s .ledger)) (c .before .enum-told2 .given .1)
+    c .refused .ensures ∙ ap (λ k. answer (numberOf k) (s .boundaries) (s .ledger)) (c .before .enum-told2 .given .1)
 
 check-record-requires : tie.Need-check-record-requires
 check-record-requires c κs = search needs
@@ -95,15 +95,15 @@ returns c =
     rw (stopped (reach (entry k)) (entry k .args .given) (t .0 .0) (sym (k .check-record .ensures) ∙ t .1))
     (record {
       refusal-is = ap (λ r. r .refusal) a;
-      ends-are = ap (λ r. r .ends) a;
+      boundaries-are = ap (λ r. r .boundaries) a;
       ledger-is = ap (λ r. r .ledger) a;
       mass-is = refl;
       base-is = refl;
       carried-is = refl;
     })
 
-crossed-of-requires : tie.Need-crossed-of-requires
-crossed-of-requires c κs =
+boundary-mass-of-requires : tie.Need-boundary-mass-of-requires
+boundary-mass-of-requires c κs =
     let e = c .before .before .before in
     let k = checked e in (
       subst Ready (sym (columns-with (reach (start e)) k)) (ready (reach (start e)) k),
@@ -133,8 +133,8 @@ returns-2 c =
     let x = c .before .before .before in
     let s = start (told x) in
     let q = entered-refused _ _ _ _ (c .before .before .enter .ensures) (c .enum-told3 .given .1) in
-    rw (full (reach s) (s .args .given) (passed (told x)) (ap ledgerFits (sym (booked x)) ∙ q))
-    (record { refusal-is = refl; ends-are = refl; ledger-is = refl; mass-is = refl; base-is = refl; carried-is = refl })
+    rw (full (reach s) (s .args .given) (passed (told x)) (ap ledgerFits (sym (ledger-entered x)) ∙ q))
+    (record { refusal-is = refl; boundaries-are = refl; ledger-is = refl; mass-is = refl; base-is = refl; carried-is = refl })
 
 commit-requires : tie.Need-commit-requires
 commit-requires c κs =
@@ -154,17 +154,17 @@ same-length-9 : tie.Need-same-length-9
 same-length-9 c = search needs
 
 returns-3 : tie.Need-returns-3
-unfolding transported
+unfolding afterTransport
 returns-3 c =
     let x = c .before .before .before .before .before .before .before .before .before .before .before .before .before in
     let s = start (told x) in
     let d = c .before .before .before .before .before in
-    let q = entered-booked _ _ _ _ (d .before .before .before .before .before .before .before .enter .ensures) (d .before .before .before .before .before .next .given .1) in
-    rw (accepted (reach s) (s .args .given) (passed (told x)) (ap ledgerFits (sym (booked x)) ∙ q .0))
+    let q = entered-accepted _ _ _ _ (d .before .before .before .before .before .before .before .enter .ensures) (d .before .before .before .before .before .next .given .1) in
+    rw (accepted (reach s) (s .args .given) (passed (told x)) (ap ledgerFits (sym (ledger-entered x)) ∙ q .0))
     (record {
       refusal-is = refl;
-      ends-are = refl;
-      ledger-is = q .1 ∙ booked x;
+      boundaries-are = refl;
+      ledger-is = q .1 ∙ ledger-entered x;
       mass-is = d .commit .ensures .0 ∙ ap movedMass (sym (entering x));
       base-is = d .commit .ensures .1 .0;
       carried-is = d .commit .ensures .1 .1;
@@ -182,7 +182,7 @@ set-boundaries-spec =
     same-length-2
     same-length-3
     returns
-    crossed-of-requires
+    boundary-mass-of-requires
     enter-requires
     enum-known-next
     enum-told-3

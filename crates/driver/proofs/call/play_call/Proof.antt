@@ -6,7 +6,7 @@ use denote.Ref.{now}
 use lib.ListN.{length, getD}
 use borrow.Author.Needs.{needs}
 use Rattle.script.specs.Script.{boundaryFrom, callAt}
-use Rattle.driver.proofs.DriverLaws.{is-step, is-settle, is-setting, is-greatest, is-write, is-opening}
+use Rattle.driver.proofs.DriverLaws.{is-step, is-transport, is-setting, is-greatest, is-write, is-opening}
 use Rattle.driver.proofs.call.play_call.Statement.{statement}
 use Rattle.driver.proofs.call.play_call.Tie as tie
 
@@ -77,10 +77,10 @@ returns-2 : tie.Need-returns-2
 unfolding callAt
 returns-2 c =
     let a = c .before .before .before .before .before .before .before .before .before .before .before .before .before .before .before .before .before .before .before .before .before .before .args in
-    rw (sym (is-settle (getD (now (a .words)) (a .at) 0) (getD (now (a .words)) (a .at + 1) 0) (getD (now (a .words)) (a .at + 2) 0) (boundaryFrom (now (a .words)) (a .at + 3) ∷ boundaryFrom (now (a .words)) (a .at + 8) ∷ []) (now (a .sheets)) (length (now (a .out))) (c .before .before .before .before .before .before .before .before .before .before .before .before .before .if1 .left) (c .before .before .before .before .before .before .before .before .before .before .before .before .if2 .taken))) (c .before .before .before .before .before .play-transport .ensures _)
+    rw (sym (is-transport (getD (now (a .words)) (a .at) 0) (getD (now (a .words)) (a .at + 1) 0) (getD (now (a .words)) (a .at + 2) 0) (boundaryFrom (now (a .words)) (a .at + 3) ∷ boundaryFrom (now (a .words)) (a .at + 8) ∷ []) (now (a .sheets)) (length (now (a .out))) (c .before .before .before .before .before .before .before .before .before .before .before .before .before .if1 .left) (c .before .before .before .before .before .before .before .before .before .before .before .before .if2 .taken))) (c .before .before .before .before .before .play-transport .ensures _)
 
-ends-from-requires : tie.Need-ends-from-requires
-ends-from-requires c κs = search needs
+boundaries-from-requires : tie.Need-boundaries-from-requires
+boundaries-from-requires c κs = search needs
 
 play-setting-requires : tie.Need-play-setting-requires
 play-setting-requires c κs = search needs
@@ -107,7 +107,7 @@ returns-3 : tie.Need-returns-3
 unfolding callAt
 returns-3 c =
     let a = c .before .before .before .before .before .before .before .before .before .before .before .before .before .before .before .before .before .before .before .before .before .before .before .before .args in
-    rw (sym (is-setting (getD (now (a .words)) (a .at) 0) (getD (now (a .words)) (a .at + 1) 0) (getD (now (a .words)) (a .at + 2) 0) (boundaryFrom (now (a .words)) (a .at + 3) ∷ boundaryFrom (now (a .words)) (a .at + 8) ∷ []) (now (a .sheets)) (length (now (a .out))) (c .before .before .before .before .before .before .before .before .before .before .before .before .before .before .before .if1 .left) (c .before .before .before .before .before .before .before .before .before .before .before .before .before .before .if2 .left) (c .before .before .before .before .before .before .before .before .before .before .before .before .before .if3 .taken))) (rw (c .before .before .before .before .before .before .before .before .before .before .before .before .ends-from .ensures) at (c .before .before .before .before .before .play-setting .ensures (now (a .out))))
+    rw (sym (is-setting (getD (now (a .words)) (a .at) 0) (getD (now (a .words)) (a .at + 1) 0) (getD (now (a .words)) (a .at + 2) 0) (boundaryFrom (now (a .words)) (a .at + 3) ∷ boundaryFrom (now (a .words)) (a .at + 8) ∷ []) (now (a .sheets)) (length (now (a .out))) (c .before .before .before .before .before .before .before .before .before .before .before .before .before .before .before .if1 .left) (c .before .before .before .before .before .before .before .before .before .before .before .before .before .before .if2 .left) (c .before .before .before .before .before .before .before .before .before .before .before .before .before .if3 .taken))) (rw (c .before .before .before .before .before .before .before .before .before .before .before .before .boundaries-from .ensures) at (c .before .before .before .before .before .play-setting .ensures (now (a .out))))
 
 play-greatest-requires : tie.Need-play-greatest-requires
 play-greatest-requires c κs = search needs
@@ -230,7 +230,7 @@ play-call-spec =
     same-length-11
     same-length-12
     returns-2
-    ends-from-requires
+    boundaries-from-requires
     play-setting-requires
     same-length-13
     same-length-14

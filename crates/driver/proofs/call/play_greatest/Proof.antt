@@ -12,7 +12,7 @@ greatest-step-requires c κs = search needs
 returns : tie.Need-returns
 returns c out =
     let a = c .before .before .before .before .before .before .args in
-    plays-greatest (reachOf (now (a .z)) (now (a .h)) (now (a .q)) (now (a .m)) (now (a .b)) (now (a .c)) (a .x) (a .ends) (a .ledger)) (c .before .before .greatest-step .ensures) out
+    plays-greatest (reachOf (now (a .bed)) (now (a .depth)) (now (a .discharge)) (now (a .mass)) (now (a .base)) (now (a .carried)) (a .x) (a .boundaries) (a .ledger)) (c .before .before .greatest-step .ensures) out
 
 pub play-greatest-spec : {M : Type 1} → statement M
 play-greatest-spec = tie.close (tie.spec greatest-step-requires returns)

@@ -15,17 +15,17 @@ least-requires-2 c κs = search needs
 most-requires : tie.Need-most-requires
 most-requires c κs = search needs
 
-sub-play-reopen : tie.Need-sub-play-reopen
-sub-play-reopen c = search needs
+sub-play-open : tie.Need-sub-play-open
+sub-play-open c = search needs
 
-part-play-reopen-start : tie.Need-part-play-reopen-start
-part-play-reopen-start c = search needs
+part-play-open-start : tie.Need-part-play-open-start
+part-play-open-start c = search needs
 
-part-play-reopen-end : tie.Need-part-play-reopen-end
-part-play-reopen-end c = search needs
+part-play-open-end : tie.Need-part-play-open-end
+part-play-open-end c = search needs
 
-play-reopen-requires : tie.Need-play-reopen-requires
-play-reopen-requires c κs = search needs
+play-open-requires : tie.Need-play-open-requires
+play-open-requires c κs = search needs
 
 same-length : tie.Need-same-length
 same-length c = search needs
@@ -48,7 +48,7 @@ same-length-6 c = search needs
 returns : tie.Need-returns
 returns c out =
     let a = c .before .before .before .before .before .before .before .before .before .before .before .before .before .before .before .before .before .before .before .before .before .before .before .before .args in
-    rw (sym (cut-part (now (a .sheets)) (a .«from») (a .to) _ _ _ (c .before .before .before .before .before .before .before .before .before .before .before .before .before .before .before .before .before .before .before .least .ensures) (c .before .before .before .before .before .before .before .before .before .before .before .before .before .before .before .before .before .before .least2 .ensures) (c .before .before .before .before .before .before .before .before .before .before .before .before .before .before .before .before .before .most .ensures))) (c .before .before .before .before .before .before .before .before .before .play-reopen .ensures out)
+    rw (sym (cut-part (now (a .sheets)) (a .«from») (a .to) _ _ _ (c .before .before .before .before .before .before .before .before .before .before .before .before .before .before .before .before .before .before .before .least .ensures) (c .before .before .before .before .before .before .before .before .before .before .before .before .before .before .before .before .before .before .least2 .ensures) (c .before .before .before .before .before .before .before .before .before .before .before .before .before .before .before .before .before .most .ensures))) (c .before .before .before .before .before .before .before .before .before .play-open .ensures out)
 
 pub play-opening-spec : {M : Type 1} → statement M
 play-opening-spec =
@@ -57,10 +57,10 @@ play-opening-spec =
     least-requires
     least-requires-2
     most-requires
-    sub-play-reopen
-    part-play-reopen-start
-    part-play-reopen-end
-    play-reopen-requires
+    sub-play-open
+    part-play-open-start
+    part-play-open-end
+    play-open-requires
     same-length
     same-length-2
     same-length-3

@@ -24,7 +24,7 @@ same-length-3 c = search needs
 returns : tie.Need-returns
 returns c out =
     let a = c .before .before .before .before .before .before .before .before .before .before .before .before .before .before .before .args in
-    rw (c .came-to .ensures) (plays-setting (reachOf (now (a .z)) (now (a .h)) (now (a .q)) (now (a .m)) (now (a .b)) (now (a .c)) (a .x) (a .ends) (a .ledger)) (a .given) (c .before .before .before .before .before .before .before .before .set-boundaries .ensures) out)
+    rw (c .came-to .ensures) (plays-setting (reachOf (now (a .bed)) (now (a .depth)) (now (a .discharge)) (now (a .mass)) (now (a .base)) (now (a .carried)) (a .x) (a .boundaries) (a .ledger)) (a .given) (c .before .before .before .before .before .before .before .before .set-boundaries .ensures) out)
 
 pub play-setting-spec : {M : Type 1} → statement M
 play-setting-spec =

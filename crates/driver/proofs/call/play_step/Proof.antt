@@ -27,7 +27,7 @@ same-length-5 c = search needs
 returns : tie.Need-returns
 returns c out =
     let a = c .before .before .before .before .before .before .before .before .before .before .before .before .before .before .before .before .before .before .before .args in
-    plays-step (reachOf (now (a .z)) (now (a .h)) (now (a .q)) (now (a .m)) (now (a .b)) (now (a .c)) (a .x) (a .ends) (a .ledger)) (a .t) (c .before .before .before .before .before .before .before .before .before .before .step .ensures) out
+    plays-step (reachOf (now (a .bed)) (now (a .depth)) (now (a .discharge)) (now (a .mass)) (now (a .base)) (now (a .carried)) (a .x) (a .boundaries) (a .ledger)) (a .t) (c .before .before .before .before .before .before .before .before .before .before .step .ensures) out
 
 pub play-step-spec : {M : Type 1} → statement M
 play-step-spec =

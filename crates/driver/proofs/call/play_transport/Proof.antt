@@ -2,7 +2,7 @@
 use denote.Ref.{now}
 use borrow.Author.Needs.{needs}
 use Rattle.reach.specs.Reach.{reachOf}
-use Rattle.driver.proofs.DriverLaws.{plays-settle}
+use Rattle.driver.proofs.DriverLaws.{plays-transport}
 use Rattle.driver.proofs.call.play_transport.Statement.{statement}
 use Rattle.driver.proofs.call.play_transport.Tie as tie
 
@@ -24,7 +24,7 @@ same-length-3 c = search needs
 returns : tie.Need-returns
 returns c out =
     let a = c .before .before .before .before .before .before .before .before .before .before .before .before .before .before .before .args in
-    rw (c .came-to .ensures) (plays-settle (reachOf (now (a .z)) (now (a .h)) (now (a .q)) (now (a .m)) (now (a .b)) (now (a .c)) (a .x) (a .ends) (a .ledger)) (c .before .before .before .before .before .before .before .before .transport .ensures) out)
+    rw (c .came-to .ensures) (plays-transport (reachOf (now (a .bed)) (now (a .depth)) (now (a .discharge)) (now (a .mass)) (now (a .base)) (now (a .carried)) (a .x) (a .boundaries) (a .ledger)) (c .before .before .before .before .before .before .before .before .transport .ensures) out)
 
 pub play-transport-spec : {M : Type 1} → statement M
 play-transport-spec =

@@ -25,7 +25,7 @@ same-length c = search needs
 returns : tie.Need-returns
 returns c =
     let a = c .before .before .before .before .before .before .before .before .before .before .before .args in
-    rw (c .came-to .ensures) (plays-write (reachOf (now (a .z)) (now (a .h)) (now (a .q)) (now (a .m)) (now (a .b)) (now (a .c)) (a .x) (a .ends) (a .ledger)) (a .room) (now (a .out)) _ (sym (taken-length _ _ (c .before .before .before .before .before .before .before .before .before .before .before .pre))) (c .before .before .before .before .before .write-sheet .ensures))
+    rw (c .came-to .ensures) (plays-write (reachOf (now (a .bed)) (now (a .depth)) (now (a .discharge)) (now (a .mass)) (now (a .base)) (now (a .carried)) (a .x) (a .boundaries) (a .ledger)) (a .room) (now (a .out)) _ (sym (taken-length _ _ (c .before .before .before .before .before .before .before .before .before .before .before .pre))) (c .before .before .before .before .before .write-sheet .ensures))
 
 pub play-write-spec : {M : Type 1} → statement M
 play-write-spec =

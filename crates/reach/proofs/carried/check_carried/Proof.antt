@@ -14,16 +14,16 @@ use Rattle.reach.proofs.carried.check_carried.Statement.{statement}
 use Rattle.reach.proofs.carried.check_carried.Tie as tie
 
 cells-fit : (c : tie.After-enum-told) →
-    (let s = c .before .before .before .before .before .args in carriedCellsFit (now (s .h)) (now (s .b)) (now (s .c)) ≡ true)
+    (let s = c .before .before .before .before .before .args in carriedCellsFit (now (s .depth)) (now (s .base)) (now (s .carried)) ≡ true)
 cells-fit c = passed 8 _ _ (c .before .before .check-carried-cells .ensures) (c .enum-told .given .1)
 
 left-is : (c : tie.After-shut-fits) →
-    (let s = c .before .before .before .before .before .before .before .args in c .shut-fits .result ≡ shutFits (s .left-kind) (getD (now (s .c)) 0 (pos 0)))
+    (let s = c .before .before .before .before .before .before .before .args in c .shut-fits .result ≡ shutFits (s .left-kind) (getD (now (s .carried)) 0 (pos 0)))
 left-is c = rw (toZ-ofZ (sfits-of (c .before .shut-fits-arg .given))) at (c .shut-fits .ensures)
 
 right-is : (c : tie.After-shut-fits2) →
     (let s = c .before .before .before .before .before .before .before .before .before .before .args in
-    c .shut-fits2 .result ≡ shutFits (s .right-kind) (getD (now (s .c)) (length (now (s .h))) (pos 0)))
+    c .shut-fits2 .result ≡ shutFits (s .right-kind) (getD (now (s .carried)) (length (now (s .depth))) (pos 0)))
 right-is c = rw (toZ-ofZ (sfits-of (c .before .shut-fits-arg2 .given))) at (c .shut-fits2 .ensures)
 
 check-carried-cells-requires : tie.Need-check-carried-cells-requires

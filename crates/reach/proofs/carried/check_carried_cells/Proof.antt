@@ -28,12 +28,12 @@ abbrev μ-loop : tie.MeasureT-loop
 μ-loop h b c n i₀ i = n - i
 
 cell-is : (c : tie.After-carried-fits Inv-loop μ-loop) → (let s = c .before .before .before .before .before .before .before .before .before .args in
-    c .carried-fits .result ≡ carriedAt (now (s .h)) (now (s .b)) (now (s .c)) (c .before .before .before .before .before .before .loop .i))
+    c .carried-fits .result ≡ carriedAt (now (s .depth)) (now (s .base)) (now (s .carried)) (c .before .before .before .before .before .before .loop .i))
 cell-is c =
     let s = c .before .before .before .before .before .before .before .before .before .args in
     let i = c .before .before .before .before .before .before .loop .i in
-    let left = toZ-ofZ {w = w64} {z = getD (now (s .c)) i (pos 0)} (sfits-of (c .before .before .carried-fits-arg .given)) in
-    let right = toZ-ofZ {w = w64} {z = getD (now (s .c)) (i + 1) (pos 0)} (sfits-of (c .before .carried-fits-arg2 .given)) in
+    let left = toZ-ofZ {w = w64} {z = getD (now (s .carried)) i (pos 0)} (sfits-of (c .before .before .carried-fits-arg .given)) in
+    let right = toZ-ofZ {w = w64} {z = getD (now (s .carried)) (i + 1) (pos 0)} (sfits-of (c .before .carried-fits-arg2 .given)) in
     rw (left, right) at (c .carried-fits .ensures)
 
 loop-holds : tie.Need-loop-holds Inv-loop μ-loop
@@ -71,7 +71,7 @@ carried-fits-requires : tie.Need-carried-fits-requires Inv-loop μ-loop
 carried-fits-requires c κs =
     let s = c .before .before .before .before .before .before .before .before .pre in
     let i = c .before .before .before .before .before .loop .i in
-    let l : i < length (now (c .before .before .before .before .before .before .before .before .args .h)) = omega arith in
+    let l : i < length (now (c .before .before .before .before .before .before .before .before .args .depth)) = omega arith in
     (s .deep i l, s .base i l)
 
 returns : tie.Need-returns Inv-loop μ-loop
@@ -94,7 +94,7 @@ loop-again c =
 returns-2 : tie.Need-returns-2 Inv-loop μ-loop
 unfolding carriedCellsFit
 returns-2 c =
-    let e : c .before .loop .i ≡ length (now (c .before .before .before .before .args .h)) = omega arith in
+    let e : c .before .loop .i ≡ length (now (c .before .before .before .before .args .depth)) = omega arith in
     passes 8 (rw e at (c .before .loop .inv .1))
 
 pub check-carried-cells-spec : {M : Type 1} → statement M

@@ -28,12 +28,12 @@ abbrev μ-loop : tie.MeasureT-loop
 μ-loop z h q m b n i₀ i = n - i
 
 cell-is : (c : tie.After-cell-fits Inv-loop μ-loop) → (let s = c .before .before .before .before .before .before .before .before .before .before .before .args in
-    c .cell-fits .result ≡ cellAt (now (s .z)) (now (s .h)) (now (s .q)) (now (s .m)) (now (s .b)) (c .before .before .before .before .before .before .before .loop .i))
+    c .cell-fits .result ≡ cellAt (now (s .bed)) (now (s .depth)) (now (s .discharge)) (now (s .mass)) (now (s .base)) (c .before .before .before .before .before .before .before .loop .i))
 cell-is c =
     let s = c .before .before .before .before .before .before .before .before .before .before .before .args in
     let i = c .before .before .before .before .before .before .before .loop .i in
-    let bed = toZ-ofZ {w = w64} {z = getD (now (s .z)) i (pos 0)} (sfits-of (c .before .before .before .before .before .cell-fits-arg .given)) in
-    let discharge = toZ-ofZ {w = w64} {z = getD (now (s .q)) i (pos 0)} (sfits-of (c .before .before .before .cell-fits-arg2 .given)) in
+    let bed = toZ-ofZ {w = w64} {z = getD (now (s .bed)) i (pos 0)} (sfits-of (c .before .before .before .before .before .cell-fits-arg .given)) in
+    let discharge = toZ-ofZ {w = w64} {z = getD (now (s .discharge)) i (pos 0)} (sfits-of (c .before .before .before .cell-fits-arg2 .given)) in
     rw (bed, discharge) at (c .cell-fits .ensures)
 
 loop-holds : tie.Need-loop-holds Inv-loop μ-loop
@@ -92,7 +92,7 @@ loop-again c =
 returns-2 : tie.Need-returns-2 Inv-loop μ-loop
 unfolding cellsFit
 returns-2 c =
-    let e : c .before .loop .i ≡ length (now (c .before .before .before .before .before .args .z)) = omega arith in
+    let e : c .before .loop .i ≡ length (now (c .before .before .before .before .before .args .bed)) = omega arith in
     passes 7 (rw e at (c .before .loop .inv .1))
 
 pub check-cells-spec : {M : Type 1} → statement M

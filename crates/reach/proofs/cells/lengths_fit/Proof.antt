@@ -17,8 +17,8 @@ use Rattle.reach.proofs.cells.lengths_fit.Tie as tie
 abbrev Rest : ℕ → tie.Start → Type 0
 Rest k s =
     let a = s .args in
-    lengthsFit (a .z) (a .h) (a .q) (a .m) (a .b) (a .c)
-    ≡ allOf (drop k (leb 1 (a .z) ∷ leb (a .z) cellsMost ∷ eqb (a .h) (a .z) ∷ eqb (a .q) (a .z) ∷ eqb (a .m) (a .z) ∷ eqb (a .b) (a .z) ∷ eqb (a .c) (a .z + 1) ∷ []))
+    lengthsFit (a .bed) (a .depth) (a .discharge) (a .mass) (a .base) (a .carried)
+    ≡ allOf (drop k (leb 1 (a .bed) ∷ leb (a .bed) cellsMost ∷ eqb (a .depth) (a .bed) ∷ eqb (a .discharge) (a .bed) ∷ eqb (a .mass) (a .bed) ∷ eqb (a .base) (a .bed) ∷ eqb (a .carried) (a .bed + 1) ∷ []))
 
 after-1 : (c : tie.Else1) → Rest 1 (c .before)
 unfolding lengthsFit

@@ -16,10 +16,10 @@ use Rattle.sheet.proofs.opening.check_lent.Tie as tie
 
 abbrev tests : tie.Start → List Bool
 tests s = let a = s .args in
-    eqb (a .z) (a .n) ∷ eqb (a .h) (a .n) ∷ eqb (a .q) (a .n) ∷ eqb (a .m) (a .n) ∷ eqb (a .b) (a .n) ∷ eqb (a .c) (a .n + 1) ∷ []
+    eqb (a .bed) (a .n) ∷ eqb (a .depth) (a .n) ∷ eqb (a .discharge) (a .n) ∷ eqb (a .mass) (a .n) ∷ eqb (a .base) (a .n) ∷ eqb (a .carried) (a .n + 1) ∷ []
 
 abbrev fits : tie.Start → Bool
-fits s = let a = s .args in lentFit (a .n) (a .z) (a .h) (a .q) (a .m) (a .b) (a .c)
+fits s = let a = s .args in lentFit (a .n) (a .bed) (a .depth) (a .discharge) (a .mass) (a .base) (a .carried)
 
 abbrev Rest : ℕ → tie.Start → Type 0
 Rest k s = fits s ≡ allOf (drop k (tests s))

@@ -11,7 +11,7 @@ use Rattle.numbers.specs.Index.{allBelow}
 use Rattle.reach.specs.Grounds.{cellLengthFits, boundariesFit, passOr}
 use Rattle.reach.specs.declared.boundary.Boundary.{Boundary}
 use Rattle.reach.proofs.GroundsLaws.{passed, refused-by, go-on, stop-at, last-one}
-use Rattle.sheet.specs.Header.{headerSize, countOf, cellLengthOf, endsOf, editionFits, sizeFits, columnsClear, spansOf}
+use Rattle.sheet.specs.Header.{headerSize, countOf, cellLengthOf, boundariesOf, editionFits, sizeFits, columnsClear, spansOf}
 use Rattle.sheet.specs.Ranges.{Within, cellAt}
 use Rattle.sheet.specs.Opening.{lentFit}
 use Rattle.sheet.proofs.OpeningLaws.{edition-long, size-few, within, values-are}
@@ -36,12 +36,12 @@ clear c = passed 3 _ _ (c .before .before .check-columns .ensures) (c .enum-told
 
 -- grounds 4 to 6 of the sheet's own numbers
 lent-is : (c : tie.After-check-lent) →
-    let a = c .before .before .before .before .before .before .before .before .before .before .before .before .args in c .check-lent .result ≡ passOr 4 (lentFit (countOf (now (a .s))) (a .z) (a .h) (a .q) (a .m) (a .b) (a .c))
+    let a = c .before .before .before .before .before .before .before .before .before .before .before .before .args in c .check-lent .result ≡ passOr 4 (lentFit (countOf (now (a .s))) (a .bed) (a .depth) (a .discharge) (a .mass) (a .base) (a .carried))
 lent-is c =
     let a = c .before .before .before .before .before .before .before .before .before .before .before .before .args in
-    c .check-lent .ensures ∙ ap (λ (n : ℕ). passOr 4 (lentFit n (a .z) (a .h) (a .q) (a .m) (a .b) (a .c))) (c .before .count-of .ensures .0)
+    c .check-lent .ensures ∙ ap (λ (n : ℕ). passOr 4 (lentFit n (a .bed) (a .depth) (a .discharge) (a .mass) (a .base) (a .carried))) (c .before .count-of .ensures .0)
 
-lengths : (c : tie.After-enum-told7) → let a = c .before .before .before .before .before .before .before .before .before .before .before .before .before .before .args in lentFit (countOf (now (a .s))) (a .z) (a .h) (a .q) (a .m) (a .b) (a .c) ≡ true
+lengths : (c : tie.After-enum-told7) → let a = c .before .before .before .before .before .before .before .before .before .before .before .before .before .before .args in lentFit (countOf (now (a .s))) (a .bed) (a .depth) (a .discharge) (a .mass) (a .base) (a .carried) ≡ true
 lengths c = passed 4 _ _ (lent-is (c .before .before)) (c .enum-told7 .given .1)
 
 length-is : (c : tie.After-check-cell-length) → c .check-cell-length .result ≡ passOr 5 (cellLengthFits (cellLengthOf (sheet (c .before .before .before .before .before .before .before .before .before .before .before .before .before .before .before .before))))
@@ -50,11 +50,11 @@ length-is c = c .check-cell-length .ensures ∙ ap (λ (n : ℕ). passOr 5 (cell
 cell-length : (c : tie.After-enum-told9) → cellLengthFits (cellLengthOf (sheet (c .before .before .before .before .before .before .before .before .before .before .before .before .before .before .before .before .before .before))) ≡ true
 cell-length c = passed 5 _ _ (length-is (c .before .before)) (c .enum-told9 .given .1)
 
-ends-are : (c : tie.After-check-boundaries) → c .check-boundaries .result ≡ passOr 6 (boundariesFit (endsOf (sheet (c .before .before .before .before .before .before .before .before .before .before .before .before .before .before .before .before .before .before .before .before))))
-ends-are c = c .check-boundaries .ensures ∙ ap (λ (es : List Boundary). passOr 6 (boundariesFit es)) (c .before .read-boundaries .ensures)
+boundaries-are : (c : tie.After-check-boundaries) → c .check-boundaries .result ≡ passOr 6 (boundariesFit (boundariesOf (sheet (c .before .before .before .before .before .before .before .before .before .before .before .before .before .before .before .before .before .before .before .before))))
+boundaries-are c = c .check-boundaries .ensures ∙ ap (λ (es : List Boundary). passOr 6 (boundariesFit es)) (c .before .read-boundaries .ensures)
 
-boundaries : (c : tie.After-enum-told11) → boundariesFit (endsOf (sheet (c .before .before .before .before .before .before .before .before .before .before .before .before .before .before .before .before .before .before .before .before .before .before))) ≡ true
-boundaries c = passed 6 _ _ (ends-are (c .before .before)) (c .enum-told11 .given .1)
+boundaries : (c : tie.After-enum-told11) → boundariesFit (boundariesOf (sheet (c .before .before .before .before .before .before .before .before .before .before .before .before .before .before .before .before .before .before .before .before .before .before))) ≡ true
+boundaries c = passed 6 _ _ (boundaries-are (c .before .before)) (c .enum-told11 .given .1)
 
 check-edition-requires : tie.Need-check-edition-requires
 check-edition-requires c κs = search needs
@@ -140,7 +140,7 @@ enum-told-12 c = search needs
 returns-6 : tie.Need-returns-6
 returns-6 c =
     sym (go-on _ _ (edition (c .before .before .before .before .before .before .before .before .before .before .before .before .before .before .before .before .before .before)) (go-on _ _ (size (c .before .before .before .before .before .before .before .before .before .before .before .before .before .before .before)) (go-on _ _ (clear (c .before .before .before .before .before .before .before .before .before .before .before .before)) (go-on _ _ (lengths (c .before .before .before .before .before .before .before .before)) (go-on _ _ (cell-length (c .before .before .before .before))
-    (stop-at _ _ (refused-by 6 _ _ _ (ends-are (c .before .before)) (c .enum-told12 .given .1))))))))
+    (stop-at _ _ (refused-by 6 _ _ _ (boundaries-are (c .before .before)) (c .enum-told12 .given .1))))))))
 
 layout-of-requires : tie.Need-layout-of-requires
 layout-of-requires c κs = long (c .before .before .before .before .before .before .before .before .before .before .before .before .before .before .before .before .before .before)

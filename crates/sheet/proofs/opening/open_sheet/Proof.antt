@@ -21,7 +21,7 @@ use Rattle.sheet.proofs.opening.open_sheet.Statement.{statement}
 use Rattle.sheet.proofs.opening.open_sheet.Tie as tie
 
 abbrev columns : tie.Start → Reach
-columns s = lent (now (s .args .z)) (now (s .args .h)) (now (s .args .q)) (now (s .args .m)) (now (s .args .b)) (now (s .args .c))
+columns s = lent (now (s .args .bed)) (now (s .args .depth)) (now (s .args .discharge)) (now (s .args .mass)) (now (s .args .base)) (now (s .args .carried))
 
 abbrev grounds : tie.Start → Check
 grounds s =
@@ -111,7 +111,7 @@ returns-2 c =
     (record {
       refusal-is = refl;
       length-is = c .before .before .cell-length-of .ensures;
-      ends-are = c .before .read-boundaries .ensures;
+      boundaries-are = c .before .read-boundaries .ensures;
       ledger-is = c .empty-ledger .ensures;
       bed-is = f .0 ∙ ap₂ (columnAt (twos 4) 4 sheet) (l .beds-are) (n .beds);
       depth-is = depths;

@@ -8,13 +8,13 @@ use Rattle.reach.specs.declared.boundary.Boundary.{Boundary}
 use Rattle.reach.specs.declared.ledger.Ledger.{Ledger}
 use Rattle.reach.specs.declared.refusal.Check.{Check}
 use Rattle.sheet.specs.Opening.{unopenedBy}
-use Rattle.sheet.specs.declared.opening.Opened.{Opened}
+use Rattle.sheet.specs.declared.opening.OpenAnswer.{OpenAnswer}
 use Rattle.sheet.proofs.opening.unopened.Statement.{statement}
 use Rattle.sheet.proofs.opening.unopened.Tie as tie
 
 -- the answer from its two parts
-abbrev put : (n : ℕ) → Boundary → Ledger → Opened
-put n e k = record { refusal = n; «cell_length» = 0; ends = e ∷ e ∷ []; ledger = k }
+abbrev put : (n : ℕ) → Boundary → Ledger → OpenAnswer
+put n e k = record { refusal = n; «cell_length» = 0; boundaries = e ∷ e ∷ []; ledger = k }
 
 no-boundary-requires : tie.Need-no-boundary-requires
 no-boundary-requires c κs = search needs

@@ -11,7 +11,7 @@ use Rattle.reach.specs.Grounds.{ledgerFits}
 use Rattle.reach.specs.declared.ledger.Totals.{Totals}
 use Rattle.reach.proofs.Sound.{totals-sound, ledger-left, ledger-right}
 use Rattle.transport.specs.Calls.{ledgerWith, withMass, pickEntered}
-use Rattle.stepping.specs.Step.{withWater, withEndWater}
+use Rattle.stepping.specs.Step.{withWater, withBoundaryWater}
 use borrow.Author.Needs.{needs}
 use Rattle.stepping.proofs.ledger.enter_step.Statement.{statement}
 use Rattle.stepping.proofs.ledger.enter_step.Tie as tie
@@ -61,8 +61,8 @@ right-is c =
 next-is : (c : tie.After-with-water2) →
     let s = c .before .before .before .before .before .before .before .before .before .before .args in
     record { left = c .before .before .before .with-water .result; right = c .with-water2 .result }
-    ≡ withEndWater (ledgerWith (s .k) (s .x .«left_in») (s .x .«left_out») (s .x .«right_in») (s .x .«right_out»)) (s .first) (s .last)
-unfolding withEndWater ledgerWith
+    ≡ withBoundaryWater (ledgerWith (s .k) (s .x .«left_in») (s .x .«left_out») (s .x .«right_in») (s .x .«right_out»)) (s .first) (s .last)
+unfolding withBoundaryWater ledgerWith
 next-is c = ap₂ (λ (l r : Totals). record { left = l; right = r }) (left-is (c .before .before .before)) (right-is c)
 
 -- ---- the calls

@@ -12,21 +12,21 @@ use mir.Facts.{toZ-ofZ}
 use borrow.Author.Needs.{needs, sfits-of}
 use Rattle.flux.specs.Ranges.{Mesh}
 use Rattle.cfl.specs.Cfl.{meetsCfl}
-use Rattle.mass.specs.Transport.{Columns}
+use Rattle.mass.specs.Transport.{MassColumns}
 use Rattle.mass.specs.Ranges.{Ready}
 use Rattle.reach.specs.Reach.{Reach, reachOf, cells}
 use Rattle.reach.specs.Grounds.{ledgerFits}
 use Rattle.reach.specs.declared.ledger.Ledger.{Ledger}
 use Rattle.reach.proofs.GroundsLaws.{passed, refused-by}
 use Rattle.reach.proofs.Sound.{Sound, sound}
-use Rattle.transport.specs.Calls.{columnsOf, pickEntered}
-use Rattle.transport.proofs.CallsLaws.{ready, columns-with, entered-refused, entered-booked}
+use Rattle.transport.specs.Calls.{massColumnsOf, pickEntered}
+use Rattle.transport.proofs.CallsLaws.{ready, columns-with, entered-refused, entered-accepted}
 use Rattle.water.specs.Ranges.{flowOf, Swept, sidesMeet}
 use Rattle.water.proofs.WaterLaws.{sides-same, swept-same}
 use Rattle.stepping.specs.GreatestStep.{placeSpeed}
-use Rattle.stepping.specs.Step.{keepsSums, settledFirst, withEndWater, stepLedger, stepped, depthsFit, step, stoppedBy, StepCameTo}
-use Rattle.stepping.specs.Ranges.{CrossedWhen}
-use Rattle.stepping.specs.declared.step.Stepped.{Stepped}
+use Rattle.stepping.specs.Step.{keepsSums, transportedFirst, withBoundaryWater, stepLedger, afterStep, depthsFit, step, stoppedBy, StepCameTo}
+use Rattle.stepping.specs.Ranges.{BoundaryMassWhen}
+use Rattle.stepping.specs.declared.step.StepAnswer.{StepAnswer}
 use Rattle.stepping.proofs.StepCallLaws.{mesh, water-fits, met-is, depths-are, sums-are, net-at, summable, depth-written, discharge-written, carried-written, addable, small-when, ready-when, ledger-after, mass-when, base-when, carried-when, stopped-11, stopped-12, stopped-13, stepped-on, stayed, came}
 use Rattle.stepping.proofs.step.advance.Statement.{statement}
 use Rattle.stepping.proofs.step.advance.Tie as tie
@@ -34,10 +34,10 @@ use Rattle.stepping.proofs.step.advance.Tie as tie
 -- the record as it came, and that it is sound
 abbrev reach : tie.Start → Reach
 reach s =
-    reachOf (now (s .args .z)) (now (s .args .h)) (now (s .args .q)) (now (s .args .m)) (now (s .args .b)) (now (s .args .c)) (s .args .x) (s .args .ends) (s .args .ledger)
+    reachOf (now (s .args .bed)) (now (s .args .depth)) (now (s .args .discharge)) (now (s .args .mass)) (now (s .args .base)) (now (s .args .carried)) (s .args .x) (s .args .boundaries) (s .args .ledger)
 
 whole : (s : tie.Start) → Sound (reach s)
-whole s = sound (reach s) (s .args .ends) (s .pre .0)
+whole s = sound (reach s) (s .args .boundaries) (s .pre .0)
 
 fine : (s : tie.Start) → Mesh (s .args .t) (s .args .x)
 fine s = mesh (reach s) (whole s) (s .args .t) (s .pre .1)
@@ -72,7 +72,7 @@ discharge-length c = c .sweep .kept .1 .1 .1 .1 .1 .1 .1 .1 .0
 abbrev met : tie.Start → Bool
 met s = meetsCfl (placeSpeed (reach s)) (cells (reach s) + 1) (s .args .x) (s .args .t)
 
-met-same : (s : tie.Start) {v : Bool} → sidesMeet (flowOf (now (s .args .z)) (now (s .args .h)) (now (s .args .q)) (s .args .x) (s .args .ends)) (s .args .t) ≡ v → met s ≡ v
+met-same : (s : tie.Start) {v : Bool} → sidesMeet (flowOf (now (s .args .bed)) (now (s .args .depth)) (now (s .args .discharge)) (s .args .x) (s .args .boundaries)) (s .args .t) ≡ v → met s ≡ v
 met-same s e = sym (met-is (reach s) (whole s) (s .args .t)) ∙ sym (sides-same (reach s) (s .args .t)) ∙ e
 
 cfl : (c : tie.After-enum-told) → met (entry (c .before .before .before .before .before)) ≡ true
@@ -86,21 +86,21 @@ deep c =
     ∙ passed 12 _ _ (c .before .before .check-depths .ensures) (c .enum-told3 .given .1)
 
 -- the settling test
-settling : (c : tie.After-keeps-sums) → not (c .keeps-sums .result) ≡ not (keepsSums (reach (entry (c .before .before .before .before .before .before .before .before .before .before .before .before .before))) (entry (c .before .before .before .before .before .before .before .before .before .before .before .before .before) .args .t))
-settling c =
+transporting : (c : tie.After-keeps-sums) → not (c .keeps-sums .result) ≡ not (keepsSums (reach (entry (c .before .before .before .before .before .before .before .before .before .before .before .before .before))) (entry (c .before .before .before .before .before .before .before .before .before .before .before .before .before) .args .t))
+transporting c =
     let w = c .before .before .before .before .before .before .before .before .before .before .before .before .before in
     ap not (c .keeps-sums .ensures ∙ sums-are (reach (entry w)) (whole (entry w)) (entry w .args .t) (net w) (depth w) (discharge w) (swept w))
 
 -- the mass that crosses both boundaries
-crossed : (c : tie.After-crossed-when) →
-    let x = c .crossed-when .result in
-    CrossedWhen (not (c .before .before .before .before .keeps-sums .result)) (columnsOf (reach (entry (c .before .before .before .before .before .before .before .before .before .before .before .before .before .before .before .before .before)))) (x .«left_in») (x .«left_out») (x .«right_in») (x .«right_out»)
+crossed : (c : tie.After-boundary-mass-when) →
+    let x = c .boundary-mass-when .result in
+    BoundaryMassWhen (not (c .before .before .before .before .keeps-sums .result)) (massColumnsOf (reach (entry (c .before .before .before .before .before .before .before .before .before .before .before .before .before .before .before .before .before)))) (x .«left_in») (x .«left_out») (x .«right_in») (x .«right_out»)
 crossed c =
-    let x = c .crossed-when .result in
+    let x = c .boundary-mass-when .result in
     let s = entry (c .before .before .before .before .before .before .before .before .before .before .before .before .before .before .before .before .before) in
-    subst (λ (k : Columns). CrossedWhen (not (c .before .before .before .before .keeps-sums .result)) k (x .«left_in») (x .«left_out») (x .«right_in») (x .«right_out»))
+    subst (λ (k : MassColumns). BoundaryMassWhen (not (c .before .before .before .before .keeps-sums .result)) k (x .«left_in») (x .«left_out») (x .«right_in») (x .«right_out»))
     (columns-with (reach s) (whole s))
-    (c .crossed-when .ensures)
+    (c .boundary-mass-when .ensures)
 
 -- ground 13: what the ledger would be
 entered : (c : tie.After-enter-step) →
@@ -109,23 +109,23 @@ entered : (c : tie.After-enter-step) →
 entered c =
     let w = c .before .before .before .before .before .before .before .before .before .before .before .before .before .before .before .before .before .before .before .before in
     let s = entry w in
-    let x = c .before .before .before .crossed-when .result in
+    let x = c .before .before .before .boundary-mass-when .result in
     rw (toZ-ofZ (sfits-of (c .before .before .enter-step-arg .given)), toZ-ofZ (sfits-of (c .before .enter-step-arg2 .given))) at (c .enter-step .ensures)
     ∙ ap (λ (k : Ledger). pickEntered (ledgerFits k) k)
-    (ledger-after (reach s) (whole s) (s .args .t) (not (c .before .before .before .before .before .before .before .keeps-sums .result)) (settling (c .before .before .before .before .before .before .before)) (x .«left_in») (x .«left_out») (x .«right_in») (x .«right_out») (crossed (c .before .before .before))
+    (ledger-after (reach s) (whole s) (s .args .t) (not (c .before .before .before .before .before .before .before .keeps-sums .result)) (transporting (c .before .before .before .before .before .before .before)) (x .«left_in») (x .«left_out») (x .«right_in») (x .«right_out») (crossed (c .before .before .before))
     _ _ (swept w .nets 0 (omega arith)) (swept w .nets (cells (reach s)) (omega arith)))
 
 -- the carried water after the settling inside the step
-abbrev carried : tie.After-settle-when → List ℤ
-carried c = c .settle-when .last .1 .1 .1 .1 .0
+abbrev carried : tie.After-transport-when → List ℤ
+carried c = c .transport-when .last .1 .1 .1 .1 .0
 
-carried-length : (c : tie.After-settle-when) → length (carried c) ≡ length (now (entry (c .before .before .before .before .before .before .before .before .before .before .before .before .before .before .before .before .before .before .before .before .before .before .before .before .before .before .before .before) .args .c))
-carried-length c = c .settle-when .kept .1 .1 .1 .1 .0
+carried-length : (c : tie.After-transport-when) → length (carried c) ≡ length (now (entry (c .before .before .before .before .before .before .before .before .before .before .before .before .before .before .before .before .before .before .before .before .before .before .before .before .before .before .before .before) .args .carried))
+carried-length c = c .transport-when .kept .1 .1 .1 .1 .0
 
-carried-settled : (c : tie.After-settle-when) → carried c ≡ settledFirst (reach (entry (c .before .before .before .before .before .before .before .before .before .before .before .before .before .before .before .before .before .before .before .before .before .before .before .before .before .before .before .before))) (entry (c .before .before .before .before .before .before .before .before .before .before .before .before .before .before .before .before .before .before .before .before .before .before .before .before .before .before .before .before) .args .t) .carried
-carried-settled c =
+carried-transported : (c : tie.After-transport-when) → carried c ≡ transportedFirst (reach (entry (c .before .before .before .before .before .before .before .before .before .before .before .before .before .before .before .before .before .before .before .before .before .before .before .before .before .before .before .before))) (entry (c .before .before .before .before .before .before .before .before .before .before .before .before .before .before .before .before .before .before .before .before .before .before .before .before .before .before .before .before) .args .t) .carried
+carried-transported c =
     let s = entry (c .before .before .before .before .before .before .before .before .before .before .before .before .before .before .before .before .before .before .before .before .before .before .before .before .before .before .before .before) in
-    c .settle-when .ensures .1 .1 ∙ carried-when (reach s) (whole s) (s .args .t) (not (c .before .before .before .before .before .before .before .before .before .before .before .before .before .before .before .keeps-sums .result)) (settling (c .before .before .before .before .before .before .before .before .before .before .before .before .before .before .before))
+    c .transport-when .ensures .1 .1 ∙ carried-when (reach s) (whole s) (s .args .t) (not (c .before .before .before .before .before .before .before .before .before .before .before .before .before .before .before .keeps-sums .result)) (transporting (c .before .before .before .before .before .before .before .before .before .before .before .before .before .before .before))
 
 slice-aggregate-sweep : tie.Need-slice-aggregate-sweep
 slice-aggregate-sweep c = search needs
@@ -162,7 +162,7 @@ returns c =
     let w = c .before .before .before .before .before .before in
     let s = entry w in
     let a = s .args in
-    subst (λ (r : Stepped). StepCameTo (reach s) (a .t) r (now (a .h)) (now (a .q)) (now (a .m)) (now (a .b)) (now (a .c))) (sym (c .stopped .ensures))
+    subst (λ (r : StepAnswer). StepCameTo (reach s) (a .t) r (now (a .depth)) (now (a .discharge)) (now (a .mass)) (now (a .base)) (now (a .carried))) (sym (c .stopped .ensures))
     (stayed (reach s) (a .t) 11 (omega arith)
     (stopped-11 (reach s) (a .t) (s .pre .0) (s .pre .1) (met-same s (refused-by 11 _ _ _ (w .sweep .ensures .0) (c .before .enum-told2 .given .1)))))
 
@@ -195,7 +195,7 @@ returns-2 c =
     let f =
     sym (depths-are (reach s) (whole s) (a .t) (net w) (depth w) (discharge w) (swept w)) ∙ refused-by 12 _ _ _ (c .before .before .before .check-depths .ensures) (c .before .enum-told4 .given .1)
     in
-    subst (λ (r : Stepped). StepCameTo (reach s) (a .t) r (now (a .h)) (now (a .q)) (now (a .m)) (now (a .b)) (now (a .c))) (sym (c .stopped2 .ensures))
+    subst (λ (r : StepAnswer). StepCameTo (reach s) (a .t) r (now (a .depth)) (now (a .discharge)) (now (a .mass)) (now (a .base)) (now (a .carried))) (sym (c .stopped2 .ensures))
     (stayed (reach s) (a .t) 12 (omega arith) (stopped-12 (reach s) (a .t) (s .pre .0) (s .pre .1) (cfl (c .before .before .before .before .before)) f))
 
 slice-aggregate-keeps-sums : tie.Need-slice-aggregate-keeps-sums
@@ -207,8 +207,8 @@ keeps-sums-requires c κs =
     let s = entry w in
     summable (reach s) (whole s) (s .args .t) (net w) (depth w) (discharge w) (swept w) (fine s) (omega (arith, net-length w, whole s .few))
 
-crossed-when-requires : tie.Need-crossed-when-requires
-crossed-when-requires c κs =
+boundary-mass-when-requires : tie.Need-boundary-mass-when-requires
+boundary-mass-when-requires c κs =
     let s = entry (c .before .before .before .before .before .before .before .before .before .before .before .before .before .before .before .before) in
     let k = whole s in
     (subst Ready (sym (columns-with (reach s) k)) (ready (reach s) k), omega (arith, k .some, k .masses))
@@ -227,10 +227,10 @@ enter-step-requires c κs =
     let w = c .before .before .before .before .before .before .before .before .before .before .before .before .before .before .before .before .before .before .before in
     let s = entry w in
     let k = whole s in
-    let x = c .before .before .crossed-when .result in
+    let x = c .before .before .boundary-mass-when .result in
     let at = net-at (reach s) k (s .args .t) (net w) (depth w) (discharge w) (swept w) (fine s) in
     rw (toZ-ofZ (sfits-of (c .before .enter-step-arg .given)), toZ-ofZ (sfits-of (c .enter-step-arg2 .given))) (
-      (k .ledger, small-when (reach s) k (s .args .t) _ (settling (c .before .before .before .before .before .before)) (x .«left_in») (x .«left_out») (x .«right_in») (x .«right_out») (crossed (c .before .before))),
+      (k .ledger, small-when (reach s) k (s .args .t) _ (transporting (c .before .before .before .before .before .before)) (x .«left_in») (x .«left_out») (x .«right_in») (x .«right_out») (crossed (c .before .before))),
       (at 0 (omega arith), at (cells (reach s)) (omega arith)),
     )
 
@@ -262,16 +262,16 @@ returns-3 : tie.Need-returns-3
 returns-3 c =
     let s = entry (c .before .before .before .before .before .before .before .before .before .before .before .before .before .before .before .before .before .before .before .before .before .before .before) in
     let a = s .args in
-    subst (λ (r : Stepped). StepCameTo (reach s) (a .t) r (now (a .h)) (now (a .q)) (now (a .m)) (now (a .b)) (now (a .c))) (sym (c .stopped3 .ensures))
+    subst (λ (r : StepAnswer). StepCameTo (reach s) (a .t) r (now (a .depth)) (now (a .discharge)) (now (a .mass)) (now (a .base)) (now (a .carried))) (sym (c .stopped3 .ensures))
     (stayed (reach s) (a .t) 13 (omega arith)
     (stopped-13 (reach s) (a .t) (s .pre .0) (s .pre .1) (cfl (c .before .before .before .before .before .before .before .before .before .before .before .before .before .before .before .before .before .before)) (deep (c .before .before .before .before .before .before .before .before .before .before .before .before .before .before)) (entered-refused _ _ _ _ (entered (c .before .before .before)) (c .before .enum-told5 .given .1))))
 
-settle-when-requires : tie.Need-settle-when-requires
-settle-when-requires c κs =
+transport-when-requires : tie.Need-transport-when-requires
+transport-when-requires c κs =
     let s = entry (c .before .before .before .before .before .before .before .before .before .before .before .before .before .before .before .before .before .before .before .before .before .before .before .before .before .before .before) in
     let k = whole s in
-    let x = c .before .before .before .before .before .before .before .before .before .before .crossed-when .result in (
-      ready-when (reach s) k (s .args .t) (not (c .before .before .before .before .before .before .before .before .before .before .before .before .before .before .keeps-sums .result)) (settling (c .before .before .before .before .before .before .before .before .before .before .before .before .before .before)) (x .«left_in») (x .«left_out») (x .«right_in») (x .«right_out») (crossed (c .before .before .before .before .before .before .before .before .before .before)),
+    let x = c .before .before .before .before .before .before .before .before .before .before .boundary-mass-when .result in (
+      ready-when (reach s) k (s .args .t) (not (c .before .before .before .before .before .before .before .before .before .before .before .before .before .before .keeps-sums .result)) (transporting (c .before .before .before .before .before .before .before .before .before .before .before .before .before .before)) (x .«left_in») (x .«left_out») (x .«right_in») (x .«right_out») (crossed (c .before .before .before .before .before .before .before .before .before .before)),
       k .bases ∙ sym (k .depths),
     )
 
@@ -293,7 +293,7 @@ write-step-requires c κs =
         omega (arith, depth-length w, k .depths, k .few),
         (omega (arith, discharge-length w, k .discharges, k .few), omega (arith, net-length w, k .interfaces, k .few, carried-length (c .before .before .before .before .before .before .before .before .before .before .before))),
       ),
-      addable (reach s) k (s .args .t) (net w) (depth w) (discharge w) (swept w) (carried (c .before .before .before .before .before .before .before .before .before .before .before)) (carried-settled (c .before .before .before .before .before .before .before .before .before .before .before)) (fine s),
+      addable (reach s) k (s .args .t) (net w) (depth w) (discharge w) (swept w) (carried (c .before .before .before .before .before .before .before .before .before .before .before)) (carried-transported (c .before .before .before .before .before .before .before .before .before .before .before)) (fine s),
     )
 
 same-length-10 : tie.Need-same-length-10
@@ -303,10 +303,10 @@ same-length-11 : tie.Need-same-length-11
 same-length-11 c = c .before .before .before .before .write-step .kept .1 .0
 
 same-length-12 : tie.Need-same-length-12
-same-length-12 c = c .before .before .before .before .before .before .before .before .before .before .before .before .before .before .before .before .settle-when .kept .1 .1 .0
+same-length-12 c = c .before .before .before .before .before .before .before .before .before .before .before .before .before .before .before .before .transport-when .kept .1 .1 .0
 
 same-length-13 : tie.Need-same-length-13
-same-length-13 c = c .before .before .before .before .before .before .before .before .before .before .before .before .before .before .before .before .settle-when .kept .1 .1 .1 .0
+same-length-13 c = c .before .before .before .before .before .before .before .before .before .before .before .before .before .before .before .before .transport-when .kept .1 .1 .1 .0
 
 same-length-14 : tie.Need-same-length-14
 same-length-14 c = c .before .before .before .before .write-step .kept .1 .1 .0 ∙ carried-length (c .before .before .before .before .before .before .before .before .before .before .before .before .before .before .before .before)
@@ -317,20 +317,20 @@ returns-4 c =
     let s = entry w in
     let k = whole s in
     let t = s .args .t in
-    let x = c .before .before .before .before .before .before .before .before .before .before .before .before .before .before .before .before .before .before .before .before .before .before .before .before .before .before .before .crossed-when .result in
-    let e = settling (c .before .before .before .before .before .before .before .before .before .before .before .before .before .before .before .before .before .before .before .before .before .before .before .before .before .before .before .before .before .before .before) in
+    let x = c .before .before .before .before .before .before .before .before .before .before .before .before .before .before .before .before .before .before .before .before .before .before .before .before .before .before .before .boundary-mass-when .result in
+    let e = transporting (c .before .before .before .before .before .before .before .before .before .before .before .before .before .before .before .before .before .before .before .before .before .before .before .before .before .before .before .before .before .before .before) in
     let wrote = c .before .before .before .before .write-step .ensures in
-    let moved = c .before .before .before .before .before .before .before .before .before .before .before .before .before .before .before .before .settle-when .ensures in
-    let booked = entered-booked _ _ _ _ (entered (c .before .before .before .before .before .before .before .before .before .before .before .before .before .before .before .before .before .before .before .before .before .before .before .before)) (c .before .before .before .before .before .before .before .before .before .before .before .before .before .before .before .before .before .before .before .before .before .before .next .given .1) in
+    let moved = c .before .before .before .before .before .before .before .before .before .before .before .before .before .before .before .before .transport-when .ensures in
+    let ledger-entered = entered-accepted _ _ _ _ (entered (c .before .before .before .before .before .before .before .before .before .before .before .before .before .before .before .before .before .before .before .before .before .before .before .before)) (c .before .before .before .before .before .before .before .before .before .before .before .before .before .before .before .before .before .before .before .before .before .before .next .given .1) in
     came (reach s) t
-    (stepped-on (reach s) t (s .pre .0) (s .pre .1) (cfl (c .before .before .before .before .before .before .before .before .before .before .before .before .before .before .before .before .before .before .before .before .before .before .before .before .before .before .before .before .before .before .before .before .before .before .before .before .before .before .before)) (deep (c .before .before .before .before .before .before .before .before .before .before .before .before .before .before .before .before .before .before .before .before .before .before .before .before .before .before .before .before .before .before .before .before .before .before .before)) (booked .0))
-    (booked .1)
+    (stepped-on (reach s) t (s .pre .0) (s .pre .1) (cfl (c .before .before .before .before .before .before .before .before .before .before .before .before .before .before .before .before .before .before .before .before .before .before .before .before .before .before .before .before .before .before .before .before .before .before .before .before .before .before .before)) (deep (c .before .before .before .before .before .before .before .before .before .before .before .before .before .before .before .before .before .before .before .before .before .before .before .before .before .before .before .before .before .before .before .before .before .before .before)) (ledger-entered .0))
+    (ledger-entered .1)
     e
     (wrote .0 ∙ depth-written (reach s) k t (net w) (depth w) (discharge w) (swept w))
     (wrote .1 .0 ∙ discharge-written (reach s) k t (net w) (depth w) (discharge w) (swept w))
     (moved .0 ∙ mass-when (reach s) k t (not (c .before .before .before .before .before .before .before .before .before .before .before .before .before .before .before .before .before .before .before .before .before .before .before .before .before .before .before .before .before .before .before .keeps-sums .result)) e (x .«left_in») (x .«left_out») (x .«right_in») (x .«right_out») (crossed (c .before .before .before .before .before .before .before .before .before .before .before .before .before .before .before .before .before .before .before .before .before .before .before .before .before .before .before)))
     (moved .1 .0 ∙ base-when (reach s) k t (not (c .before .before .before .before .before .before .before .before .before .before .before .before .before .before .before .before .before .before .before .before .before .before .before .before .before .before .before .before .before .before .before .keeps-sums .result)) e)
-    (wrote .1 .1 ∙ carried-written (reach s) k t (net w) (depth w) (discharge w) (swept w) (carried (c .before .before .before .before .before .before .before .before .before .before .before .before .before .before .before .before)) (carried-settled (c .before .before .before .before .before .before .before .before .before .before .before .before .before .before .before .before)))
+    (wrote .1 .1 ∙ carried-written (reach s) k t (net w) (depth w) (discharge w) (swept w) (carried (c .before .before .before .before .before .before .before .before .before .before .before .before .before .before .before .before)) (carried-transported (c .before .before .before .before .before .before .before .before .before .before .before .before .before .before .before .before)))
 
 pub advance-spec : {M : Type 1} → statement M
 advance-spec =
@@ -356,7 +356,7 @@ advance-spec =
     returns-2
     slice-aggregate-keeps-sums
     keeps-sums-requires
-    crossed-when-requires
+    boundary-mass-when-requires
     array-copy-out-enter-step
     mul-enter-step
     array-copy-out-enter-step-2
@@ -370,7 +370,7 @@ advance-spec =
     same-length-8
     same-length-9
     returns-3
-    settle-when-requires
+    transport-when-requires
     slice-aggregate-write-step
     slice-aggregate-write-step-2
     slice-aggregate-write-step-3

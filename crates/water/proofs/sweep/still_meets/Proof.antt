@@ -10,8 +10,8 @@ use borrow.Author.Tests.{not-true, not-false}
 use Rattle.numbers.proofs.SignedLaws.{abs-sub}
 use Rattle.flux.specs.Wave.{waveSpeed}
 use Rattle.flux.proofs.WaveLaws.{wave-speed-most}
-use Rattle.water.specs.Ranges.{sideOf, CellFits, sideMeets}
-use Rattle.water.specs.declared.Cell.{Cell}
+use Rattle.water.specs.Ranges.{sideOf, SideStateFits, sideMeets}
+use Rattle.water.specs.declared.SideState.{SideState}
 use borrow.Author.Needs.{needs}
 use Rattle.water.proofs.sweep.still_meets.Statement.{statement}
 use Rattle.water.proofs.sweep.still_meets.Tie as tie

@@ -19,26 +19,26 @@ use Rattle.reach.specs.Reach.{Reach, cells}
 use Rattle.reach.specs.Grounds.{passOr}
 use Rattle.water.specs.Sides.{cellSide, boundarySide, leftSide, rightSide}
 use Rattle.water.specs.Water.{netAt, newDepth, newDischarge}
-use Rattle.water.specs.Ranges.{sideOf, CellFits, Crosses, CrossingFits, flowOf, sideMeets, sidesMeet}
-use Rattle.water.proofs.WaterLaws.{right-side-cell, crosses-at, left-side-next, right-side-next, net-by-crossing, depth-by-crossings, discharge-by-crossings, meets-more}
+use Rattle.water.specs.Ranges.{sideOf, SideStateFits, ExchangeOf, ExchangeFits, flowOf, sideMeets, sidesMeet}
+use Rattle.water.proofs.WaterLaws.{right-side-cell, exchange-at, left-side-next, right-side-next, net-by-crossing, depth-by-crossings, discharge-by-crossings, meets-more}
 use Rattle.water.proofs.sweep.sweep.Statement.{statement}
 use Rattle.water.proofs.sweep.sweep.Tie as tie
 
 abbrev Inv-loop : tie.InvT-loop
-Inv-loop t x z h q net₀ depth₀ discharge₀ ends n cell₀ met₀ left₀ i₀ net depth discharge cell met left i =
-    let s = flowOf z h q x ends in
+Inv-loop t x z h q net₀ depth₀ discharge₀ boundaries n cell₀ met₀ left₀ i₀ net depth discharge cell met left i =
+    let s = flowOf z h q x boundaries in
     (i ≤ n)
     × Written (pos 0) (netAt s t) net₀ (i + 1) net
     × Written 0 (λ k. positive (newDepth s t k)) depth₀ i depth
     × Written (pos 0) (newDischarge s t) discharge₀ i discharge
-    × CellFits cell
+    × SideStateFits cell
     × (sideOf cell ≡ rightSide s i)
-    × Crosses t x (leftSide s i) (rightSide s i) (left .rightward) (left .leftward) (left .momentum) (left .«lost_left») (left .«lost_right»)
-    × CrossingFits left
+    × ExchangeOf t x (leftSide s i) (rightSide s i) (left .rightward) (left .leftward) (left .momentum) (left .«lost_left») (left .«lost_right»)
+    × ExchangeFits left
     × (met ≡ (sideMeets t x (leftSide s 0) && allBelow (i + 1) (λ k. sideMeets t x (rightSide s k))))
 
 abbrev μ-loop : tie.MeasureT-loop
-μ-loop t x z h q net₀ depth₀ discharge₀ ends n cell₀ met₀ left₀ i₀ net depth discharge cell met left i = n - i
+μ-loop t x z h q net₀ depth₀ discharge₀ boundaries n cell₀ met₀ left₀ i₀ net depth discharge cell met left i = n - i
 
 abbrev entry : tie.After-net-of Inv-loop μ-loop → tie.Start Inv-loop μ-loop
 entry c = c .before .before .before .before .before .before .before .before .before .before .before .before
@@ -47,16 +47,16 @@ abbrev start : tie.In-loop Inv-loop μ-loop → tie.Start Inv-loop μ-loop
 start c = entry (c .before .before)
 
 abbrev flow : tie.Start Inv-loop μ-loop → Reach
-flow s = flowOf (now (s .args .z)) (now (s .args .h)) (now (s .args .q)) (s .args .x) (s .args .t6)
+flow s = flowOf (now (s .args .bed)) (now (s .args .depth)) (now (s .args .discharge)) (s .args .x) (s .args .t6)
 
 -- the first cell and the left boundary beside it
-first : (c : tie.After-cell-of Inv-loop μ-loop) → CellFits (c .cell-of .result) × (sideOf (c .cell-of .result) ≡ cellSide (flow (c .before .before .before .before .before .before)) 0)
+first : (c : tie.After-cell-state Inv-loop μ-loop) → SideStateFits (c .cell-state .result) × (sideOf (c .cell-state .result) ≡ cellSide (flow (c .before .before .before .before .before .before)) 0)
 unfolding cellSide
-first c = rw (toZ-ofZ (sfits-of (c .before .before .before .cell-of-arg .given)), toZ-ofZ (sfits-of (c .before .cell-of-arg2 .given))) at (c .cell-of .ensures)
+first c = rw (toZ-ofZ (sfits-of (c .before .before .before .cell-state-arg .given)), toZ-ofZ (sfits-of (c .before .cell-state-arg2 .given))) at (c .cell-state .ensures)
 
-beyond : (c : tie.After-boundary-cell Inv-loop μ-loop) → CellFits (c .boundary-cell .result) × (sideOf (c .boundary-cell .result) ≡ leftSide (flow (c .before .before .before .before .before .before .before .before)) 0)
+beyond : (c : tie.After-boundary-state Inv-loop μ-loop) → SideStateFits (c .boundary-state .result) × (sideOf (c .boundary-state .result) ≡ leftSide (flow (c .before .before .before .before .before .before .before .before)) 0)
 unfolding leftSide
-beyond c = (c .boundary-cell .ensures .0, c .boundary-cell .ensures .1 ∙ ap (boundarySide _) (first (c .before .before) .1))
+beyond c = (c .boundary-state .ensures .0, c .boundary-state .ensures .1 ∙ ap (boundarySide _) (first (c .before .before) .1))
 
 -- the cell at hand and what stands at its right
 index : (c : tie.In-loop Inv-loop μ-loop) → (c .before .loop .i < cells (flow (start c))) × (c .before .loop .i < 1_000_000)
@@ -75,43 +75,43 @@ here c = c .before .loop .inv .5 ∙ right-side-cell (flow (start c)) (c .before
 
 next : (c : tie.After-right-side Inv-loop μ-loop) →
     let s = flow (start (c .before .before)) in
-    CellFits (c .right-side .result) × (sideOf (c .right-side .result) ≡ rightSide s (c .before .before .before .loop .i + 1))
+    SideStateFits (c .right-side .result) × (sideOf (c .right-side .result) ≡ rightSide s (c .before .before .before .loop .i + 1))
 unfolding cellSide
 next c =
     let k = c .before .before in
     let e = c .right-side .ensures in
     (e .0, e .1 ∙ right-side-next (flow (start k)) (k .before .loop .i) (sideOf (k .before .loop .cell)) (index k .0) (here k))
 
-crossing : (c : tie.After-crossing-between2 Inv-loop μ-loop) →
+crossing : (c : tie.After-exchange-between2 Inv-loop μ-loop) →
     let k = c .before .before .before in
     let s = flow (start k) in
     let i = k .before .loop .i in
-    let r = c .crossing-between2 .result in
-    Crosses (start k .args .t) (start k .args .x) (leftSide s (i + 1)) (rightSide s (i + 1)) (r .rightward) (r .leftward) (r .momentum) (r .«lost_left») (r .«lost_right») × CrossingFits r
+    let r = c .exchange-between2 .result in
+    ExchangeOf (start k .args .t) (start k .args .x) (leftSide s (i + 1)) (rightSide s (i + 1)) (r .rightward) (r .leftward) (r .momentum) (r .«lost_left») (r .«lost_right») × ExchangeFits r
 crossing c =
     let k = c .before .before .before in
-    let e = c .crossing-between2 .ensures in
-    (crosses-at (here k ∙ sym (left-side-next (flow (start k)) (k .before .loop .i))) (next (c .before) .1) (e .0), e .1)
+    let e = c .exchange-between2 .ensures in
+    (exchange-at (here k ∙ sym (left-side-next (flow (start k)) (k .before .loop .i))) (next (c .before) .1) (e .0), e .1)
 
-shared-slice-copy-out-cell-of : tie.Need-shared-slice-copy-out-cell-of Inv-loop μ-loop
-shared-slice-copy-out-cell-of c = omega arith
+shared-slice-copy-out-cell-state : tie.Need-shared-slice-copy-out-cell-state Inv-loop μ-loop
+shared-slice-copy-out-cell-state c = omega arith
 
-shared-slice-read-cell-of : tie.Need-shared-slice-read-cell-of Inv-loop μ-loop
-shared-slice-read-cell-of c = omega arith
+shared-slice-read-cell-state : tie.Need-shared-slice-read-cell-state Inv-loop μ-loop
+shared-slice-read-cell-state c = omega arith
 
-shared-slice-copy-out-cell-of-2 : tie.Need-shared-slice-copy-out-cell-of-2 Inv-loop μ-loop
-shared-slice-copy-out-cell-of-2 c = omega arith
+shared-slice-copy-out-cell-state-2 : tie.Need-shared-slice-copy-out-cell-state-2 Inv-loop μ-loop
+shared-slice-copy-out-cell-state-2 c = omega arith
 
-cell-of-requires : tie.Need-cell-of-requires Inv-loop μ-loop
-cell-of-requires c κs =
+cell-state-requires : tie.Need-cell-state-requires Inv-loop μ-loop
+cell-state-requires c κs =
     let p = c .before .before .before .before .before .pre .0 .1 in
-    rw (toZ-ofZ (sfits-of (c .before .before .cell-of-arg .given)), toZ-ofZ (sfits-of (c .cell-of-arg2 .given))) (p .cell 0 (p .some))
+    rw (toZ-ofZ (sfits-of (c .before .before .cell-state-arg .given)), toZ-ofZ (sfits-of (c .cell-state-arg2 .given))) (p .cell 0 (p .some))
 
-array-copy-out-boundary-cell : tie.Need-array-copy-out-boundary-cell Inv-loop μ-loop
-array-copy-out-boundary-cell c = omega arith
+array-copy-out-boundary-state : tie.Need-array-copy-out-boundary-state Inv-loop μ-loop
+array-copy-out-boundary-state c = omega arith
 
-boundary-cell-requires : tie.Need-boundary-cell-requires Inv-loop μ-loop
-boundary-cell-requires c κs = (first (c .before) .0, c .before .before .before .before .before .before .before .pre .0 .1 .left)
+boundary-state-requires : tie.Need-boundary-state-requires Inv-loop μ-loop
+boundary-state-requires c κs = (first (c .before) .0, c .before .before .before .before .before .before .before .pre .0 .1 .left)
 
 still-meets-requires : tie.Need-still-meets-requires Inv-loop μ-loop
 still-meets-requires c κs = (c .before .before .before .before .before .before .before .before .pre .0 .0, beyond c .0)
@@ -119,11 +119,11 @@ still-meets-requires c κs = (c .before .before .before .before .before .before 
 still-meets-requires-2 : tie.Need-still-meets-requires-2 Inv-loop μ-loop
 still-meets-requires-2 c κs = (c .before .before .before .before .before .before .before .before .before .pre .0 .0, first (c .before .before .before) .0)
 
-crossing-between-requires : tie.Need-crossing-between-requires Inv-loop μ-loop
-crossing-between-requires c κs = (c .before .before .before .before .before .before .before .before .before .before .pre .0 .0, (beyond (c .before .before) .0, first (c .before .before .before .before) .0))
+exchange-between-requires : tie.Need-exchange-between-requires Inv-loop μ-loop
+exchange-between-requires c κs = (c .before .before .before .before .before .before .before .before .before .before .pre .0 .0, (beyond (c .before .before) .0, first (c .before .before .before .before) .0))
 
 net-of-requires : tie.Need-net-of-requires Inv-loop μ-loop
-net-of-requires c κs = c .crossing-between .ensures .1
+net-of-requires c κs = c .exchange-between .ensures .1
 
 slice-set-from-net : tie.Need-slice-set-from-net Inv-loop μ-loop
 slice-set-from-net c = let p = entry c .pre .1 .0 in omega (arith, p)
@@ -136,8 +136,8 @@ loop-holds c =
     let a = first (c .before .before .before .before .before .before) in
     let b = beyond (c .before .before .before .before) in
     let r = a .1 ∙ sym (right-side-cell (flow s) 0 (p .some)) in
-    let e = c .before .crossing-between .ensures in
-    let k = crosses-at (b .1) r (e .0) in
+    let e = c .before .exchange-between .ensures in
+    let k = exchange-at (b .1) r (e .0) in
     let meets = sideMeets (s .args .t) (s .args .x) in (
       omega arith,
       written-first (pos 0) (netAt (flow s) (s .args .t)) (now (s .args .net)) (stored c) (omega (arith, s .pre .1 .0)) (toZ-ofZ (sfits-of (c .net-of .ok)) ∙ c .net-of .ensures ∙ sym (net-by-crossing (flow s) (s .args .t) 0 k)),
@@ -161,8 +161,8 @@ right-side-requires c κs =
     let p = start (c .before) .pre .0 .1 in
     ((p .depths, p .discharges), ((λ l. p .cell _ l), (c .before .before .loop .inv .4, p .right)))
 
-crossing-between-requires-2 : tie.Need-crossing-between-requires-2 Inv-loop μ-loop
-crossing-between-requires-2 c κs = (start (c .before .before) .pre .0 .0, (c .before .before .before .loop .inv .4, next c .0))
+exchange-between-requires-2 : tie.Need-exchange-between-requires-2 Inv-loop μ-loop
+exchange-between-requires-2 c κs = (start (c .before .before) .pre .0 .0, (c .before .before .before .loop .inv .4, next c .0))
 
 mul-depth-after : tie.Need-mul-depth-after Inv-loop μ-loop
 mul-depth-after c = let l = index (c .before .before .before) in omega (arith, l .1)
@@ -184,23 +184,23 @@ still-meets-requires-3 c κs = (start (c .before .before .before .before .before
 net-of-requires-2 : tie.Need-net-of-requires-2 Inv-loop μ-loop
 net-of-requires-2 c κs = crossing (c .before .before .before) .1
 
-add-discharge : tie.Need-add-discharge Inv-loop μ-loop
-add-discharge c = let l = index (c .before .before .before .before .before .before .before) in omega (arith, l .1)
+add-new-discharge : tie.Need-add-new-discharge Inv-loop μ-loop
+add-new-discharge c = let l = index (c .before .before .before .before .before .before .before) in omega (arith, l .1)
 
-mul-discharge : tie.Need-mul-discharge Inv-loop μ-loop
-mul-discharge c = let l = index (c .before .before .before .before .before .before .before) in omega (arith, l .1)
+mul-new-discharge : tie.Need-mul-new-discharge Inv-loop μ-loop
+mul-new-discharge c = let l = index (c .before .before .before .before .before .before .before) in omega (arith, l .1)
 
-slice-set-from-discharge : tie.Need-slice-set-from-discharge Inv-loop μ-loop
-slice-set-from-discharge c =
+slice-set-from-new-discharge : tie.Need-slice-set-from-new-discharge Inv-loop μ-loop
+slice-set-from-new-discharge c =
     let k = c .before .before .before .before .before .before .before in
     let l = index k in
     omega (arith, l .0, start k .pre .1 .0, net-length k)
 
-mul-depth : tie.Need-mul-depth Inv-loop μ-loop
-mul-depth c = let l = index (c .before .before .before .before .before .before .before) in omega (arith, l .1)
+mul-new-depth : tie.Need-mul-new-depth Inv-loop μ-loop
+mul-new-depth c = let l = index (c .before .before .before .before .before .before .before) in omega (arith, l .1)
 
-slice-write-depth : tie.Need-slice-write-depth Inv-loop μ-loop
-slice-write-depth c =
+slice-write-new-depth : tie.Need-slice-write-new-depth Inv-loop μ-loop
+slice-write-new-depth c =
     let k = c .before .before .before .before .before .before .before in
     let l = index k in
     omega (arith, l .0, start k .pre .1 .1 .0, k .before .loop .inv .2 .long)
@@ -230,8 +230,8 @@ momentum-after-requires c κs =
 mul-t39 : tie.Need-mul-t39 Inv-loop μ-loop
 mul-t39 c = let l = index (c .before .before .before .before .before .before .before .before .before) in omega (arith, l .1)
 
-slice-set-from-discharge-2 : tie.Need-slice-set-from-discharge-2 Inv-loop μ-loop
-slice-set-from-discharge-2 c =
+slice-set-from-new-discharge-2 : tie.Need-slice-set-from-new-discharge-2 Inv-loop μ-loop
+slice-set-from-new-discharge-2 c =
     let k = c .before .before .before .before .before .before .before .before .before in
     let l = index k in
     omega (arith, l .0, start k .pre .1 .1 .1, k .before .loop .inv .3 .long)
@@ -302,37 +302,37 @@ sweep-spec =
     (tie.spec
     Inv-loop
     μ-loop
-    shared-slice-copy-out-cell-of
-    shared-slice-read-cell-of
-    shared-slice-copy-out-cell-of-2
-    cell-of-requires
-    array-copy-out-boundary-cell
-    boundary-cell-requires
+    shared-slice-copy-out-cell-state
+    shared-slice-read-cell-state
+    shared-slice-copy-out-cell-state-2
+    cell-state-requires
+    array-copy-out-boundary-state
+    boundary-state-requires
     still-meets-requires
     still-meets-requires-2
-    crossing-between-requires
+    exchange-between-requires
     net-of-requires
     slice-set-from-net
     loop-holds
     array-copy-out-right-side
     add-right-side
     right-side-requires
-    crossing-between-requires-2
+    exchange-between-requires-2
     mul-depth-after
     shared-slice-read-depth-after
     depth-after-requires
     still-meets-requires-3
     net-of-requires-2
-    add-discharge
-    mul-discharge
-    slice-set-from-discharge
-    mul-depth
-    slice-write-depth
+    add-new-discharge
+    mul-new-discharge
+    slice-set-from-new-discharge
+    mul-new-depth
+    slice-write-new-depth
     mul-momentum-after
     shared-slice-copy-out-momentum-after
     momentum-after-requires
     mul-t39
-    slice-set-from-discharge-2
+    slice-set-from-new-discharge-2
     add-i
     loop-less
     loop-again

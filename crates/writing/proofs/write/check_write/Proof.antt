@@ -16,9 +16,9 @@ start c = c .before .before .before .before
 
 abbrev reach : tie.Start → Reach
 reach s =
-    reachOf (now (s .args .z)) (now (s .args .h)) (now (s .args .q)) (now (s .args .m)) (now (s .args .b)) (now (s .args .c)) (s .args .x) (s .args .ends) (s .args .ledger)
+    reachOf (now (s .args .bed)) (now (s .args .depth)) (now (s .args .discharge)) (now (s .args .mass)) (now (s .args .base)) (now (s .args .carried)) (s .args .x) (s .args .boundaries) (s .args .ledger)
 
-checked : (c : tie.After-enum-told) → let s = reach (start (c .before .before)) in firstRefusal (recordGrounds s (s .ends)) ≡ Pass
+checked : (c : tie.After-enum-told) → let s = reach (start (c .before .before)) in firstRefusal (recordGrounds s (s .boundaries)) ≡ Pass
 checked c = sym (c .before .before .check-record .ensures) ∙ c .enum-told .given .1
 
 check-record-requires : tie.Need-check-record-requires
@@ -37,8 +37,8 @@ returns c =
     let t = c .enum-told2 .given in
     t .1 ∙ sym (stopped-before (reach s) (s .args .room) (t .0 .0) (sym (k .check-record .ensures) ∙ t .1))
 
-check-settled-requires : tie.Need-check-settled-requires
-check-settled-requires c κs = search needs
+check-none-carried-requires : tie.Need-check-none-carried-requires
+check-none-carried-requires c κs = search needs
 
 enum-told-3 : tie.Need-enum-told-3
 enum-told-3 c = search needs
@@ -50,20 +50,20 @@ returns-2 : tie.Need-returns-2
 returns-2 c =
     let e = c .before .before .before in
     let s = start (e .before .before) in
-    sym (stopped-14 (reach s) (s .args .room) (checked e) (refused-by 14 _ _ _ (c .before .before .check-settled .ensures) (c .enum-told4 .given .1)))
+    sym (stopped-14 (reach s) (s .args .room) (checked e) (refused-by 14 _ _ _ (c .before .before .check-none-carried .ensures) (c .enum-told4 .given .1)))
 
 check-room-requires : tie.Need-check-room-requires
 check-room-requires c κs =
     let e = c .before .before .before in
     let s = reach (start (e .before .before)) in
-    sound s (s .ends) (checked e) .few
+    sound s (s .boundaries) (checked e) .few
 
 returns-3 : tie.Need-returns-3
 returns-3 c =
     let t = c .before in
     let e = t .before .before .before in
     let s = start (e .before .before) in
-    c .check-room .ensures ∙ sym (room-left (reach s) (s .args .room) (checked e) (passed 14 _ _ (t .before .before .check-settled .ensures) (t .enum-told3 .given .1)))
+    c .check-room .ensures ∙ sym (room-left (reach s) (s .args .room) (checked e) (passed 14 _ _ (t .before .before .check-none-carried .ensures) (t .enum-told3 .given .1)))
 
 pub check-write-spec : {M : Type 1} → statement M
 check-write-spec =
@@ -73,7 +73,7 @@ check-write-spec =
     enum-told
     enum-told-2
     returns
-    check-settled-requires
+    check-none-carried-requires
     enum-told-3
     enum-told-4
     returns-2

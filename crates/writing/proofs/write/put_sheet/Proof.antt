@@ -13,7 +13,7 @@ use Rattle.writing.proofs.WritingLaws.{sheet-written}
 use Rattle.writing.proofs.write.put_sheet.Statement.{statement}
 use Rattle.writing.proofs.write.put_sheet.Tie as tie
 
-long : (s : tie.Start) → 80 + 24 * length (now (s .args .z)) ≤ length (now (s .args .out))
+long : (s : tie.Start) → 80 + 24 * length (now (s .args .bed)) ≤ length (now (s .args .out))
 unfolding sheetSize
 long s = s .pre .0 .1
 
@@ -73,7 +73,7 @@ returns : tie.Need-returns
 returns c =
     let s = c .before .before .before .before .before .before .before .before .before .before .before .before .before .before .before .before .before .before .before .before .before .before .before in
     let a = s .args in
-    sheet-written (reachOf (now (a .z)) (now (a .h)) (now (a .q)) (now (a .m)) [] [] (a .x) (a .ends) emptyLedger) (now (a .out)) (s .pre .1 .0 .0) (s .pre .1 .0 .1 .0) _ _ _ _ _
+    sheet-written (reachOf (now (a .bed)) (now (a .depth)) (now (a .discharge)) (now (a .mass)) [] [] (a .x) (a .boundaries) emptyLedger) (now (a .out)) (s .pre .1 .0 .0) (s .pre .1 .0 .1 .0) _ _ _ _ _
     (c .before .before .before .before .before .before .before .before .before .before .before .before .before .before .before .before .before .before .put-header .ensures)
     (c .before .before .before .before .before .before .before .before .before .before .before .before .before .before .put-signed .ensures)
     (c .before .before .before .before .before .before .before .before .before .before .put-column .ensures)

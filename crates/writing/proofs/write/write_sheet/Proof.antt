@@ -18,7 +18,7 @@ start c = c .before .before .before .before .before
 
 abbrev reach : tie.Start → Reach
 reach s =
-    reachOf (now (s .args .z)) (now (s .args .h)) (now (s .args .q)) (now (s .args .m)) (now (s .args .b)) (now (s .args .c)) (s .args .x) (s .args .ends) (s .args .ledger)
+    reachOf (now (s .args .bed)) (now (s .args .depth)) (now (s .args .discharge)) (now (s .args .mass)) (now (s .args .base)) (now (s .args .carried)) (s .args .x) (s .args .boundaries) (s .args .ledger)
 
 checked : (c : tie.After-enum-told) → let s = start (c .before .before) in writeRefusal (reach s) (length (now (s .args .out))) ≡ Pass
 checked c = sym (c .before .before .check-write .ensures) ∙ c .enum-told .given .1
@@ -41,7 +41,7 @@ returns c =
     let s = start k in
     let t = c .before .enum-told2 .given in
     refused-write (reach s) (now (s .args .out)) (t .0 .0) _ (sym (k .check-write .ensures) ∙ t .1)
-    (c .refused .ensures ∙ ap (λ (k : Check). writtenWith (numberOf k) (s .args .ends) (s .args .ledger)) (t .1))
+    (c .refused .ensures ∙ ap (λ (k : Check). writtenWith (numberOf k) (s .args .boundaries) (s .args .ledger)) (t .1))
 
 put-sheet-requires : tie.Need-put-sheet-requires
 put-sheet-requires c κs =
