@@ -17,7 +17,8 @@ use Rattle.numbers.proofs.SearchLaws.{by-test, by-less, climb-holds, climb-most
 use Rattle.flux.specs.Limits.{depthMost, velocityMost, timeStepMost, cellLengthLeast}
 use Rattle.flux.proofs.VelocityLaws.{velocity-most}
 use Rattle.flux.proofs.WaveLaws.{wave-speed-most}
-use Rattle.cfl.specs.Cfl.{signalSpeed, speedAt, meetsCfl, greatestStep, fastestPlace, stepFor}
+use Rattle.cfl.specs.Cfl.{signalSpeed, speedAt, meetsCfl, greatestStep, fastestPlace}
+use Rattle.cfl.specs.Ranges.{stepFor}
 
 -- at most 8,000 mm/s of current and 8,000 of wave
 pub signal-speed-most : (h : ℕ) (q : ℤ) → h ≤ depthMost → natAbs q ≤ velocityMost * h → signalSpeed h q ≤ 16_000

@@ -29,10 +29,6 @@ meetsCfl speed k X t = allBelow (suc k) (λ i. leb (t * speed i) (1_000 * X))
 unfoldable pub greatestStep : (speed : ℕ → ℕ) (k X : ℕ) → ℕ
 greatestStep speed k X = climb (λ t. meetsCfl speed k X (suc t)) timeStepMost 0
 
--- the greatest step for one speed alone; `greatest-step-is` says that the greatest speed decides
-unfoldable pub stepFor : (X v : ℕ) → ℕ
-stepFor X v = climb (λ t. leb (suc t * v) (1_000 * X)) timeStepMost 0
-
 -- the place of the greatest |u|+a among the places 0..k, the lowest among equals
 unfoldable pub fastestPlace : (speed : ℕ → ℕ) (k : ℕ) → ℕ
 fastestPlace speed zero = 0

@@ -3,8 +3,8 @@ ghost use mathlib.Core.Path.{_≡_};
 ghost use Prim.Native.Nat.{_+_, _≤_};
 ghost use lib.ListN.{length};
 ghost use Rattle.flux.specs.Limits.{cellLengthLeast, cellLengthMost};
-ghost use Rattle.cfl.specs.Cfl.{signalSpeed, speedAt, stepFor, fastestPlace};
-ghost use Rattle.cfl.specs.Ranges.{Flowing, FlowColumns};
+ghost use Rattle.cfl.specs.Cfl.{signalSpeed, speedAt, fastestPlace};
+ghost use Rattle.cfl.specs.Ranges.{Flowing, FlowColumns, stepFor};
 use flux::velocity::velocity_parts;
 use flux::wave::wave_speed;
 

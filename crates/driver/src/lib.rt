@@ -1,36 +1,21 @@
 // A driver that plays a list of calls, encoded in lent memory, through the functions themselves: demand 3 as a program.
-pub mod call;
-
 ghost use mathlib.Core.Path.{_≡_};
 ghost use Prim.Native.Nat.{_≤_};
 ghost use lib.ListN.{length, set};
-ghost use Rattle.reach.specs.Reach.{reachOf};
-ghost use Rattle.sheet.specs.Opening.{lent};
+ghost use Rattle.reach.specs.Reach.{reachOf, came};
+ghost use Rattle.sheet.specs.Opening.{noneHeld};
 ghost use Rattle.script.specs.Script.{script};
 ghost use Rattle.driver.specs.Replay.{flag, noted, world, playedFrom, ReplayCameTo};
-use call::play_call;
-use reach::boundary::Boundary;
-use reach::ledger::Ledger;
+use player::call::play_call;
+use reach::held::Held;
 use sheet::opening::open_sheet;
 
-// What one call answered, and X, ends and ledger as it left them
-pub struct Played {
-    pub refusal: u32,
-    pub transported: bool,
-    pub time: u64,
-    pub place: usize,
-    pub cell_length: u64,
-    pub boundaries: [Boundary; 2],
-    pub ledger: Ledger,
-}
-
-// 0, or the number of the ground that refused the first opening; X, ends and ledger as the last call left them
+// 0, or the number of the ground that refused the first opening; X, boundaries and ledger as the last call left them
 #[repr(C)]
 pub struct Replayed {
     pub refusal: u32,
     pub cell_length: u64,
-    pub boundaries: [Boundary; 2],
-    pub ledger: Ledger,
+    pub held: Held,
 }
 
 // Past the end nothing is noted.
@@ -74,21 +59,19 @@ pub fn resume(
     base: &mut [u64],
     carried: &mut [i64],
     x: u64,
-    boundaries: [Boundary; 2],
-    ledger: Ledger,
+    held: Held,
     out: &mut [u8],
     answers: &mut [u64],
 ) -> Replayed
-    ensures { λ r. ⌜ world (reachOf (now (bed .exit)) (now (depth .exit)) (now (discharge .exit)) (now (mass .exit)) (now (base .exit)) (now (carried .exit)) (r .«cell_length») (r .boundaries) (r .ledger)) (now (out .exit)) (now (answers .exit)) ≡ playedFrom (world (reachOf (now (bed .entry)) (now (depth .entry)) (now (discharge .entry)) (now (mass .entry)) (now (base .entry)) (now (carried .entry)) x boundaries ledger) (now (out .entry)) (now (answers .entry))) 0 (script (now (words .entry)) (now (sheets .entry)) (length (now (out .entry)))) ⌝ }
+    ensures { λ r. ⌜ world (reachOf (now (bed .exit)) (now (depth .exit)) (now (discharge .exit)) (now (mass .exit)) (now (base .exit)) (now (carried .exit)) (r .«cell_length») (r .held)) (now (out .exit)) (now (answers .exit)) ≡ playedFrom (world (came bed depth discharge mass base carried x held) (now (out .entry)) (now (answers .entry))) 0 (script (now (words .entry)) (now (sheets .entry)) (length (now (out .entry)))) ⌝ }
     ensures { λ r. ⌜ r .refusal ≡ 0 ⌝ }
 {
     let n = words.len() / 13;
     let mut cell_length = x;
-    let mut pair = boundaries;
-    let mut held = ledger;
+    let mut current = held;
     let mut j = 0;
     while j < n {
-        let before = pair;
+        let before = current;
         let p = play_call(
             words,
             13 * j,
@@ -101,21 +84,18 @@ pub fn resume(
             carried,
             cell_length,
             before,
-            held,
             out,
         );
         note(answers, j, p.refusal, p.transported, p.time, p.place);
-        let after = p.boundaries;
+        let after = p.held;
         cell_length = p.cell_length;
-        pair = after;
-        held = p.ledger;
+        current = after;
         j += 1;
     }
     Replayed {
         refusal: 0,
         cell_length,
-        boundaries: pair,
-        ledger: held,
+        held: current,
     }
 }
 
@@ -133,17 +113,15 @@ pub fn replay(
     out: &mut [u8],
     answers: &mut [u64],
 ) -> Replayed
-    ensures { λ r. ⌜ ReplayCameTo (now (sheet .entry)) (now (words .entry)) (now (sheets .entry)) (lent (now (bed .entry)) (now (depth .entry)) (now (discharge .entry)) (now (mass .entry)) (now (base .entry)) (now (carried .entry))) (now (out .entry)) (now (answers .entry)) r (now (bed .exit)) (now (depth .exit)) (now (discharge .exit)) (now (mass .exit)) (now (base .exit)) (now (carried .exit)) (now (out .exit)) (now (answers .exit)) ⌝ }
+    ensures { λ r. ⌜ ReplayCameTo (now (sheet .entry)) (now (words .entry)) (now (sheets .entry)) (came bed depth discharge mass base carried 0 noneHeld) (now (out .entry)) (now (answers .entry)) r (now (bed .exit)) (now (depth .exit)) (now (discharge .exit)) (now (mass .exit)) (now (base .exit)) (now (carried .exit)) (now (out .exit)) (now (answers .exit)) ⌝ }
 {
     let o = open_sheet(sheet, bed, depth, discharge, mass, base, carried);
-    let boundaries = o.boundaries;
-    let ledger = o.ledger;
+    let held = o.held;
     if o.refusal != 0 {
         return Replayed {
             refusal: o.refusal,
             cell_length: o.cell_length,
-            boundaries,
-            ledger,
+            held,
         };
     }
     resume(
@@ -156,8 +134,7 @@ pub fn replay(
         base,
         carried,
         o.cell_length,
-        boundaries,
-        ledger,
+        held,
         out,
         answers,
     )

@@ -1,18 +1,22 @@
 -- Document 01, 'Figures to meet': the two-cell run and the CFL figure, computed from the definitions. Two cells, walls, flat bottom 0, X 1,000, depths
--- 1,000,000 and 100,000 at rest, mass 3,000,000 and 0, one step of 100, then a settling.
+-- 1,000,000 and 100,000 at rest, mass 3,000,000 and 0, one step of 100, then a transport.
 use mathlib.Core.Path.{_≡_}
 use mathlib.Core.List.{List, [], _∷_}
 use Prim.Native.Nat.{ℕ}
 use lib.IntN.{pos}
-use Rattle.reach.specs.Reach.{Reach, noBoundary}
+use Rattle.reach.specs.Reach.{Reach, noBoundary, heldWith}
 use Rattle.reach.specs.Outcome.{Outcome}
 use Rattle.reach.specs.declared.ledger.Totals.{Totals}
-use Rattle.reach.specs.declared.ledger.Ledger.{Ledger}
+use Rattle.reach.specs.declared.held.Held.{Held}
 use Rattle.transport.specs.Calls.{transport}
-use Rattle.stepping.specs.Step.{step}
+use Rattle.update.specs.Step.{step}
 
 abbrev pub noTotals : Totals
 noTotals = record { «water_in» = 0; «water_out» = 0; «mass_in» = 0; «mass_out» = 0 }
+
+-- a pair of walls, and an empty ledger
+abbrev pub twoWalls : Held
+twoWalls = heldWith (noBoundary ∷ noBoundary ∷ []) (record { left = noTotals; right = noTotals })
 
 abbrev pub twoCells : Reach
 twoCells = record {
@@ -23,8 +27,7 @@ twoCells = record {
   base = 1_000_000 ∷ 100_000 ∷ [];
   carried = pos 0 ∷ pos 0 ∷ pos 0 ∷ [];
   cellLength = 1_000;
-  boundaries = noBoundary ∷ noBoundary ∷ [];
-  ledger = record { left = noTotals; right = noTotals };
+  held = twoWalls;
 }
 
 abbrev pub afterwards : Outcome
@@ -32,11 +35,11 @@ afterwards = transport (step twoCells 100 .reach)
 
 pub record TwoCellRun : Type 0 where
   pub step-accepted : step twoCells 100 .refusal ≡ 0
-  pub transporting-accepted : afterwards .refusal ≡ 0
+  pub transport-accepted : afterwards .refusal ≡ 0
   pub depths : afterwards .reach .depth ≡ 907_155 ∷ 192_845 ∷ []
   pub discharges : afterwards .reach .discharge ≡ pos 242_672_160 ∷ pos 242_672_160 ∷ []
   pub masses : afterwards .reach .mass ≡ 2_721_465 ∷ 278_535 ∷ []
-  pub ledger-empty : afterwards .reach .ledger ≡ record { left = noTotals; right = noTotals }
+  pub ledger-empty : afterwards .reach .held .ledger ≡ record { left = noTotals; right = noTotals }
 
 -- depth 1,000,000 at rest, X 1,000: t 260 passes CFL, 261 is 11
 abbrev pub oneCell : Reach
@@ -48,8 +51,7 @@ oneCell = record {
   base = 1_000_000 ∷ [];
   carried = pos 0 ∷ pos 0 ∷ [];
   cellLength = 1_000;
-  boundaries = noBoundary ∷ noBoundary ∷ [];
-  ledger = record { left = noTotals; right = noTotals };
+  held = twoWalls;
 }
 
 pub record CflFigure : Type 0 where

@@ -5,7 +5,7 @@ use lib.IntN.{ℤ, pos, _+ℤ_, _-ℤ_, negℤ}
 use Rattle.numbers.specs.Signed.{positive, maxℤ}
 use Rattle.flux.specs.Crossing.{waterFlux, momentumFlux}
 
--- what stands on one side of an interface, a cell or an end: bed level z, depth h, velocity u
+-- what stands on one side of an interface, a cell or a boundary: bed level z, depth h, velocity u
 pub record Side : Type 0 where
   pub bed : ℤ
   pub depth : ℕ

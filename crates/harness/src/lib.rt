@@ -9,7 +9,8 @@ ghost use Rattle.flux.specs.Velocity.{velocity};
 ghost use Rattle.flux.specs.Crossing.{waterFlux, momentumFlux, stillThrust};
 ghost use Rattle.flux.specs.Interface.{reducedDepth};
 ghost use Rattle.flux.specs.Ranges.{Mesh};
-ghost use Rattle.sheet.specs.Opening.{lent};
+ghost use Rattle.reach.specs.Reach.{came};
+ghost use Rattle.sheet.specs.Opening.{noneHeld};
 ghost use Rattle.driver.specs.Replay.{ReplayCameTo};
 ghost use Rattle.text.specs.Text.{Put};
 ghost use Rattle.program.specs.Program.{programText};
@@ -86,7 +87,7 @@ pub extern "C" fn harness_replay(
     out: &mut [u8],
     answers: &mut [u64],
 ) -> Replayed
-    ensures { λ r. ⌜ ReplayCameTo (now (sheet .entry)) (now (words .entry)) (now (sheets .entry)) (lent (now (bed .entry)) (now (depth .entry)) (now (discharge .entry)) (now (mass .entry)) (now (base .entry)) (now (carried .entry))) (now (out .entry)) (now (answers .entry)) r (now (bed .exit)) (now (depth .exit)) (now (discharge .exit)) (now (mass .exit)) (now (base .exit)) (now (carried .exit)) (now (out .exit)) (now (answers .exit)) ⌝ }
+    ensures { λ r. ⌜ ReplayCameTo (now (sheet .entry)) (now (words .entry)) (now (sheets .entry)) (came bed depth discharge mass base carried 0 noneHeld) (now (out .entry)) (now (answers .entry)) r (now (bed .exit)) (now (depth .exit)) (now (discharge .exit)) (now (mass .exit)) (now (base .exit)) (now (carried .exit)) (now (out .exit)) (now (answers .exit)) ⌝ }
 {
     replay(
         sheet,

@@ -1,17 +1,18 @@
 // The six calls as C functions, the interface of include/jemmyfern.h. Each states the contract of the call that it passes on, and requires nothing.
 ghost use mathlib.Core.Path.{_≡_};
-ghost use Rattle.reach.specs.Reach.{reachOf};
+ghost use Rattle.reach.specs.Reach.{came, heldWith};
 ghost use Rattle.transport.specs.Calls.{setBoundaries, transport as transportOf, CameTo};
-ghost use Rattle.stepping.specs.GreatestStep.{greatest};
-ghost use Rattle.stepping.specs.Step.{StepCameTo};
-ghost use Rattle.sheet.specs.Opening.{lent, opening, OpenCameTo};
+ghost use Rattle.timestep.specs.GreatestStep.{greatest};
+ghost use Rattle.stepping.specs.StepCall.{StepCameTo};
+ghost use Rattle.sheet.specs.Opening.{noneHeld, opening, OpenCameTo};
 ghost use Rattle.writing.specs.Writing.{WriteCameTo};
 use reach::boundary::Boundary;
+use reach::held::Held;
 use reach::ledger::Ledger;
 use sheet::opening::OpenAnswer;
 use sheet::opening::open_sheet;
-use stepping::GreatestAnswer;
 use stepping::step::StepAnswer;
+use timestep::GreatestAnswer;
 use transport::TransportAnswer;
 use writing::write::WriteAnswer;
 use writing::write::write_sheet;
@@ -32,7 +33,7 @@ pub extern "C" fn jemmyfern_open(
     base: &mut [u64],
     carried: &mut [i64],
 ) -> OpenAnswer
-    ensures { λ r. ⌜ OpenCameTo (opening (now (s .entry)) (lent (now (bed .entry)) (now (depth .entry)) (now (discharge .entry)) (now (mass .entry)) (now (base .entry)) (now (carried .entry)))) r (now (bed .exit)) (now (depth .exit)) (now (discharge .exit)) (now (mass .exit)) (now (base .exit)) (now (carried .exit)) ⌝ }
+    ensures { λ r. ⌜ OpenCameTo (opening (now (s .entry)) (came bed depth discharge mass base carried 0 noneHeld)) r (now (bed .exit)) (now (depth .exit)) (now (discharge .exit)) (now (mass .exit)) (now (base .exit)) (now (carried .exit)) ⌝ }
 {
     open_sheet(s, bed, depth, discharge, mass, base, carried)
 }
@@ -46,25 +47,18 @@ pub extern "C" fn jemmyfern_step(
     base: &mut [u64],
     carried: &mut [i64],
     x: u64,
-    held: Boundaries,
+    boundaries: Boundaries,
     ledger: Ledger,
     t: u64,
 ) -> StepAnswer
-    ensures { λ r. ⌜ StepCameTo (reachOf (now (bed .entry)) (now (depth .entry)) (now (discharge .entry)) (now (mass .entry)) (now (base .entry)) (now (carried .entry)) x (held .boundaries) ledger) t r (now (depth .exit)) (now (discharge .exit)) (now (mass .exit)) (now (base .exit)) (now (carried .exit)) ⌝ }
+    ensures { λ r. ⌜ StepCameTo (came bed depth discharge mass base carried x (heldWith (boundaries .boundaries) ledger)) t r (now (depth .exit)) (now (discharge .exit)) (now (mass .exit)) (now (base .exit)) (now (carried .exit)) ⌝ }
 {
-    let boundaries = held.boundaries;
-    stepping::step::step(
-        bed,
-        depth,
-        discharge,
-        mass,
-        base,
-        carried,
-        x,
-        boundaries,
+    let pair = boundaries.boundaries;
+    let held = Held {
+        boundaries: pair,
         ledger,
-        t,
-    )
+    };
+    stepping::step::step(bed, depth, discharge, mass, base, carried, x, held, t)
 }
 
 #[no_mangle]
@@ -76,23 +70,17 @@ pub extern "C" fn jemmyfern_transport(
     base: &mut [u64],
     carried: &mut [i64],
     x: u64,
-    held: Boundaries,
+    boundaries: Boundaries,
     ledger: Ledger,
 ) -> TransportAnswer
-    ensures { λ r. ⌜ CameTo (transportOf (reachOf (now (bed .entry)) (now (depth .entry)) (now (discharge .entry)) (now (mass .entry)) (now (base .entry)) (now (carried .entry)) x (held .boundaries) ledger)) r (now (mass .exit)) (now (base .exit)) (now (carried .exit)) ⌝ }
+    ensures { λ r. ⌜ CameTo (transportOf (came bed depth discharge mass base carried x (heldWith (boundaries .boundaries) ledger))) r (now (mass .exit)) (now (base .exit)) (now (carried .exit)) ⌝ }
 {
-    let boundaries = held.boundaries;
-    transport::transport(
-        bed,
-        depth,
-        discharge,
-        mass,
-        base,
-        carried,
-        x,
-        boundaries,
+    let pair = boundaries.boundaries;
+    let held = Held {
+        boundaries: pair,
         ledger,
-    )
+    };
+    transport::transport(bed, depth, discharge, mass, base, carried, x, held)
 }
 
 #[no_mangle]
@@ -104,26 +92,19 @@ pub extern "C" fn jemmyfern_set_boundaries(
     base: &mut [u64],
     carried: &mut [i64],
     x: u64,
-    held: Boundaries,
+    boundaries: Boundaries,
     ledger: Ledger,
     new: Boundaries,
 ) -> TransportAnswer
-    ensures { λ r. ⌜ CameTo (setBoundaries (reachOf (now (bed .entry)) (now (depth .entry)) (now (discharge .entry)) (now (mass .entry)) (now (base .entry)) (now (carried .entry)) x (held .boundaries) ledger) (new .boundaries)) r (now (mass .exit)) (now (base .exit)) (now (carried .exit)) ⌝ }
+    ensures { λ r. ⌜ CameTo (setBoundaries (came bed depth discharge mass base carried x (heldWith (boundaries .boundaries) ledger)) (new .boundaries)) r (now (mass .exit)) (now (base .exit)) (now (carried .exit)) ⌝ }
 {
-    let boundaries = held.boundaries;
+    let pair = boundaries.boundaries;
     let given = new.boundaries;
-    transport::set_boundaries(
-        bed,
-        depth,
-        discharge,
-        mass,
-        base,
-        carried,
-        x,
-        boundaries,
+    let held = Held {
+        boundaries: pair,
         ledger,
-        given,
-    )
+    };
+    transport::set_boundaries(bed, depth, discharge, mass, base, carried, x, held, given)
 }
 
 #[no_mangle]
@@ -135,23 +116,17 @@ pub extern "C" fn jemmyfern_greatest_step(
     base: &[u64],
     carried: &[i64],
     x: u64,
-    held: Boundaries,
+    boundaries: Boundaries,
     ledger: Ledger,
 ) -> GreatestAnswer
-    ensures { λ r. ⌜ r ≡ greatest (reachOf (now (bed .entry)) (now (depth .entry)) (now (discharge .entry)) (now (mass .entry)) (now (base .entry)) (now (carried .entry)) x (held .boundaries) ledger) ⌝ }
+    ensures { λ r. ⌜ r ≡ greatest (came bed depth discharge mass base carried x (heldWith (boundaries .boundaries) ledger)) ⌝ }
 {
-    let boundaries = held.boundaries;
-    stepping::greatest_step(
-        bed,
-        depth,
-        discharge,
-        mass,
-        base,
-        carried,
-        x,
-        boundaries,
+    let pair = boundaries.boundaries;
+    let held = Held {
+        boundaries: pair,
         ledger,
-    )
+    };
+    timestep::greatest_step(bed, depth, discharge, mass, base, carried, x, held)
 }
 
 #[no_mangle]
@@ -163,23 +138,16 @@ pub extern "C" fn jemmyfern_write(
     base: &[u64],
     carried: &[i64],
     x: u64,
-    held: Boundaries,
+    boundaries: Boundaries,
     ledger: Ledger,
     out: &mut [u8],
 ) -> WriteAnswer
-    ensures { λ r. ⌜ WriteCameTo (reachOf (now (bed .entry)) (now (depth .entry)) (now (discharge .entry)) (now (mass .entry)) (now (base .entry)) (now (carried .entry)) x (held .boundaries) ledger) (now (out .entry)) r (now (out .exit)) ⌝ }
+    ensures { λ r. ⌜ WriteCameTo (came bed depth discharge mass base carried x (heldWith (boundaries .boundaries) ledger)) (now (out .entry)) r (now (out .exit)) ⌝ }
 {
-    let boundaries = held.boundaries;
-    write_sheet(
-        bed,
-        depth,
-        discharge,
-        mass,
-        base,
-        carried,
-        x,
-        boundaries,
+    let pair = boundaries.boundaries;
+    let held = Held {
+        boundaries: pair,
         ledger,
-        out,
-    )
+    };
+    write_sheet(bed, depth, discharge, mass, base, carried, x, held, out)
 }

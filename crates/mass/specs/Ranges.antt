@@ -1,11 +1,11 @@
--- What the functions of this crate require: what a record's checks found.
+-- Not the paper's: what the inner functions require and give. A reader of the model may skip this file.
 use mathlib.Core.Path.{_≡_}
 use mathlib.Core.List.{List}
 use Prim.Native.Nat.{ℕ, _+_, _*_, _≤_, _<_}
-use lib.IntN.{ℤ}
 use lib.ListN.{length, getD}
+use Rattle.numbers.specs.Index.{tabulate}
 use Rattle.flux.specs.Limits.{depthMost, concentrationMost}
-use Rattle.mass.specs.Transport.{MassColumns, outRight, outLeft}
+use Rattle.mass.specs.Transport.{MassColumns, cellOutflow, movedCell}
 
 -- the mass of a full cell at the highest concentration
 abbrev pub massMost : ℕ
@@ -21,9 +21,13 @@ pub record Giving (m b P : ℕ) : Type 0 where
 pub record ReadyAt (s : MassColumns) (i : ℕ) : Type 0 where
   pub bases : length (s .base) ≡ length (s .mass)
   pub interfaces : length (s .carried) ≡ length (s .mass) + 1
-  pub giving : i < length (s .mass) → Giving (getD (s .mass) i 0) (getD (s .base) i 0) (outRight s i + outLeft s i)
+  pub giving : i < length (s .mass) → Giving (getD (s .mass) i 0) (getD (s .base) i 0) (cellOutflow s i)
   pub entering : s .rightIn ≤ massMost
 
 pub record Ready (s : MassColumns) : Type 0 where
   pub each : (i : ℕ) → ReadyAt s i
   pub entering : s .leftIn ≤ massMost
+
+-- the column of masses that a transport leaves
+abbrev pub movedMass : MassColumns → List ℕ
+movedMass s = tabulate (length (s .mass)) (movedCell s)

@@ -1,10 +1,11 @@
 // Mass moved along the columns of a reach, in place (document 01, 'Settling').
 ghost use mathlib.Core.Path.{_≡_};
-ghost use Prim.Native.Nat.{ℕ, _+_, _-_, _*_, _/_, _≤_, _<_};
+ghost use mathlib.Core.List.{[], _∷_};
+ghost use Prim.Native.Nat.{_+_, _-_, _*_, _/_, _≤_, _<_};
 ghost use lib.ListN.{length};
-ghost use Rattle.numbers.specs.Shares.{share};
-ghost use Rattle.mass.specs.Transport.{massColumns, rightShare, leftwards, movedMass};
-ghost use Rattle.mass.specs.Ranges.{Giving, ReadyAt, Ready, massMost};
+ghost use Rattle.numbers.specs.Shares.{shares};
+ghost use Rattle.mass.specs.Transport.{massColumns, rightShare, leftwards};
+ghost use Rattle.mass.specs.Ranges.{Giving, ReadyAt, Ready, massMost, movedMass};
 use numbers::signed::left_part;
 use numbers::signed::right_part;
 
@@ -29,7 +30,7 @@ pub struct Shares {
 // water.
 fn shares_of(m: u64, b: u64, right: u64, left: u64) -> Shares
     requires { ⌜ Giving m b (right + left) ⌝ }
-    ensures { λ r. ⌜ (r .right ≡ share m b 0 right) × (r .left ≡ share m b right left) ⌝ }
+    ensures { λ r. ⌜ r .right ∷ r .left ∷ [] ≡ shares m b 0 (right ∷ left ∷ []) ⌝ }
 {
     let first = floor_part(m, b, right);
     if left == 0 {

@@ -1,14 +1,17 @@
 -- Laws of running floors, once for any number of parts: every share keeps the bounds of the whole, and nothing is lost. Assumes nothing.
-use mathlib.Core.Path.{_≡_, refl, sym, ap, _∙_, subst}
+use mathlib.Core.Path.{_≡_, refl, ap, _∙_, subst}
 use mathlib.Core.List.{List, [], _∷_}
 use Prim.Native.Nat.{ℕ, zero, suc, _+_, _-_, _*_, _/_, _≤_, _<_}
-use native.Mathlib.Nat.{div-zero, div-mul-le-self, le-div-iff-mul-le, div-lt-iff-lt-mul, lt-div-mul-add, div-le-of-le-mul, mul-le-mul-left, zero-lt-suc, mul-div-cancel, add-zero, zero-add, add-assoc, mul-zero, zero-div, add-sub-of-le, not-suc-le-zero, le-of-suc-le-suc}
+use native.Mathlib.Nat.{div-zero, div-mul-le-self, le-div-iff-mul-le, div-lt-iff-lt-mul, lt-div-mul-add, div-le-of-le-mul, mul-le-mul-left, zero-lt-suc, mul-div-cancel, add-zero, zero-add, add-assoc, mul-zero, zero-div, not-suc-le-zero, le-of-suc-le-suc}
 use lib.ListN.{length, getD}
 use native.Mathlib.Omega.{arith}
 use Rattle.numbers.specs.Index.{sum}
 use Rattle.numbers.specs.Shares.{share, shares, rest}
 
 module _ (m : ℕ) where
+  pub floor-none : (b : ℕ) → m * 0 / b ≡ 0
+  floor-none b = rw (mul-zero, zero-div) refl
+
   pub floor-mono : (b P p : ℕ) → m * P / b ≤ m * (P + p) / b
   floor-mono zero P p = rw (div-zero, div-zero) (omega arith)
   floor-mono (suc b) P p = le-div-iff-mul-le (zero-lt-suc b) .1 (omega (arith, div-mul-le-self (m * P) (suc b)))
@@ -37,12 +40,15 @@ module _ (m : ℕ) where
   shares-sum b P [] = rw (add-zero P) (omega arith)
   shares-sum b P (p ∷ ps) = rw (← add-assoc P p (sum ps)) (omega (arith, shares-sum b (P + p) ps, floor-mono b P p))
 
+  -- the shares of the first parts together are one floor
+  pub shares-floor : (b : ℕ) (ps : List ℕ) → sum (shares m b 0 ps) ≡ m * sum ps / b
+  shares-floor b ps =
+      let s : sum (shares m b 0 ps) + m * 0 / b ≡ m * sum ps / b = rw zero-add at (shares-sum b 0 ps) in
+      omega (arith, floor-none b)
+
   pub shares-rest : (b : ℕ) (ps : List ℕ) → sum ps ≤ b → sum (shares m b 0 ps) + rest m b (sum ps) ≡ m
   unfolding rest
-  shares-rest b ps h =
-      let e : m * 0 / b ≡ 0 = rw (mul-zero, zero-div) refl in
-      let s : sum (shares m b 0 ps) + m * 0 / b ≡ m * sum ps / b = rw zero-add at (shares-sum b 0 ps) in
-      omega (arith, floor-all b (sum ps) h)
+  shares-rest b ps h = omega (arith, shares-floor b ps, floor-all b (sum ps) h)
 
   floor-whole : (b : ℕ) → 0 < b → m * b / b ≡ m
   floor-whole b h = mul-div-cancel m h

@@ -4,7 +4,7 @@ use mathlib.Core.Path.{_≡_, refl, sym, ap, subst, _∙_}
 use mathlib.Core.Bool.{Bool, true, false, not, cond, _&&_}
 use Prim.Native.Nat.{ℕ, zero, suc, _+_, _-_, _*_, _≤_, _<_}
 use native.Mathlib.Omega.{arith}
-use lib.IntN.{ℤ, pos, negsuc, _+ℤ_, _-ℤ_, negℤ, natAbs, subℕ, negℤ-negℤ}
+use lib.IntN.{ℤ, pos, negsuc, _+ℤ_, _-ℤ_, _*ℤ_, negℤ, natAbs, subℕ, negℤ-negℤ, pos-*ℤ-pos, negsuc-*ℤ-pos}
 use lib.Dec.{T, eqb, ltb, ltb→lt, nltb→le, leb→le, le→leb, nleb→lt}
 use native.Mathlib.Nat.{le-of-lt}
 use mathlib.Core.Logic.{_⊎_, inl, inr, ⊎-elim}
@@ -38,10 +38,10 @@ sub-eq a b c d e =
     (λ l. at-least a b l ∙ ap pos (omega arith) ∙ sym (at-least c d (omega arith)))
 
 -- the two parts: max(z, 0) and max(−z, 0)
-pub parts : (z : ℤ) → z ≡ subℕ (positive z) (positive (negℤ z))
-parts (pos zero) = sym (at-least 0 0 (omega arith))
-parts (pos (suc n)) = sym (at-least (suc n) 0 (omega arith) ∙ ap pos (omega arith))
-parts (negsuc n) = sym (below 0 (suc n) (omega arith) ∙ ap negsuc (omega arith))
+pub two-parts : (z : ℤ) → z ≡ subℕ (positive z) (positive (negℤ z))
+two-parts (pos zero) = sym (at-least 0 0 (omega arith))
+two-parts (pos (suc n)) = sym (at-least (suc n) 0 (omega arith) ∙ ap pos (omega arith))
+two-parts (negsuc n) = sym (below 0 (suc n) (omega arith) ∙ ap negsuc (omega arith))
 
 pub right-sub : (a b : ℕ) → positive (subℕ a b) ≡ a - b
 right-sub a b =
@@ -83,7 +83,7 @@ plus : (y z : ℤ) → y +ℤ z ≡ subℕ (positive y + positive z) (positive (
 plus (pos m) (pos n) = pos-sub (m + n) ∙ sub-eq (m + n) 0 (m + n) (positive (negℤ (pos m)) + positive (negℤ (pos n))) (omega (arith, no-left m, no-left n))
 plus (pos m) (negsuc n) = sub-eq m (suc n) (m + 0) (positive (negℤ (pos m)) + suc n) (omega (arith, no-left m))
 plus (negsuc m) (pos n) = sub-eq n (suc m) (0 + n) (suc m + positive (negℤ (pos n))) (omega (arith, no-left n))
-plus (negsuc m) (negsuc n) = parts (negsuc (suc (m + n))) ∙ sub-eq 0 (suc (suc (m + n))) (0 + 0) (suc m + suc n) (omega arith)
+plus (negsuc m) (negsuc n) = two-parts (negsuc (suc (m + n))) ∙ sub-eq 0 (suc (suc (m + n))) (0 + 0) (suc m + suc n) (omega arith)
 
 pub sub-add : (a b c d : ℕ) → subℕ a b +ℤ subℕ c d ≡ subℕ (a + c) (b + d)
 sub-add a b c d =
@@ -121,7 +121,7 @@ abbrev pub L : ℤ → ℕ
 L z = positive (negℤ z)
 
 pub add-cross : (y z : ℤ) → R (y +ℤ z) + (L y + L z) ≡ R y + R z + L (y +ℤ z)
-add-cross y z = sub-inj (R (y +ℤ z)) (L (y +ℤ z)) (R y + R z) (L y + L z) (sym (parts (y +ℤ z)) ∙ plus y z)
+add-cross y z = sub-inj (R (y +ℤ z)) (L (y +ℤ z)) (R y + R z) (L y + L z) (sym (two-parts (y +ℤ z)) ∙ plus y z)
 
 pub neg-cross : (z : ℤ) → (R (negℤ z) ≡ L z) × (L (negℤ z) ≡ R z)
 neg-cross z = (refl, ap positive (negℤ-negℤ z))
@@ -130,7 +130,7 @@ pub minus-cross : (y z : ℤ) → R (y -ℤ z) + (L y + R z) ≡ R y + L z + L (
 minus-cross y z = omega (arith, add-cross y (negℤ z), neg-cross z .1)
 
 pub from-cross : (y z : ℤ) → R y + L z ≡ R z + L y → y ≡ z
-from-cross y z e = parts y ∙ sub-eq (R y) (L y) (R z) (L z) e ∙ sym (parts z)
+from-cross y z e = two-parts y ∙ sub-eq (R y) (L y) (R z) (L z) e ∙ sym (two-parts z)
 
 pub pos-cross : (n : ℕ) → L (pos n) ≡ 0
 pos-cross n = no-left n
@@ -200,3 +200,63 @@ eqℤ-is y z = go (leZ y z) (leZ z y) (eqb (R y + L z) (R z + L y)) refl refl re
     go true false false p q r = refl
     go false b true p q r = sym p ∙ holds y z (let e = eqb-true (R y + L z) (R z + L y) r in omega arith)
     go false b false p q r = refl
+
+-- ---- orders with a natural number
+
+pub pos-le : (m n : ℕ) → m ≤ n → pos m ≤ℤ pos n
+pos-le m n l = record { le = le→leb m n l }
+
+pub le-pos : (z : ℤ) (n : ℕ) → z ≤ℤ pos n → R z ≤ n
+le-pos (pos m) n h = leb→le m n (h .le)
+le-pos (negsuc m) n h = omega arith
+
+pub pos-below : (n : ℕ) (z : ℤ) → pos n ≤ℤ z → (n ≤ R z) × (L z ≡ 0)
+pos-below n (pos m) h = (leb→le n m (h .le), no-left m)
+pos-below n (negsuc m) h = absurd (h .le)
+
+-- ---- products with a natural number
+
+pub times-cross : (z : ℤ) (w : ℕ) → (R (z *ℤ pos w) ≡ R z * w) × (L (z *ℤ pos w) ≡ L z * w)
+times-cross (pos m) w = rw (pos-*ℤ-pos m w, no-left (m * w), no-left m) (refl, omega arith)
+times-cross (negsuc m) w = rw (negsuc-*ℤ-pos m w, no-left (suc m * w), negℤ-negℤ) (omega arith, refl)
+
+times-one : (z : ℤ) (w : ℕ) → (R z * w ≡ 0) ⊎ (L z * w ≡ 0)
+times-one (pos m) w = inr (rw (no-left m) (omega arith))
+times-one (negsuc m) w = inl (omega arith)
+
+-- a lower bound z·w on m says what max(z,0)·w does; an upper one as well, and where z is below 0 that w is 0
+pub lower-bound : (z : ℤ) (w m : ℕ) → (z *ℤ pos w) ≤ℤ pos m → R z * w ≤ m
+lower-bound z w m h =
+    let e = times-cross z w in
+    let l = le-cross (z *ℤ pos w) (pos m) h in
+    ⊎-elim (λ p. omega arith) (λ p. omega (arith, pos-cross m)) (times-one z w)
+
+pub upper-bound : (z : ℤ) (w m : ℕ) → pos m ≤ℤ (z *ℤ pos w) → (m ≤ R z * w) × (L z * w ≡ 0)
+upper-bound z w m h =
+    let e = times-cross z w in
+    let l = le-cross (pos m) (z *ℤ pos w) h in
+    ⊎-elim (λ p. (omega (arith, pos-cross m), omega (arith, pos-cross m))) (λ p. (omega (arith, pos-cross m), p)) (times-one z w)
+
+-- and back, of a sum of three
+module _ (x y z : ℤ) (a b c m : ℕ) where
+  pub sum-lower : R x * a + R y * b + R z * c ≤ m → (x *ℤ pos a +ℤ y *ℤ pos b +ℤ z *ℤ pos c) ≤ℤ pos m
+  sum-lower h =
+      let u = x *ℤ pos a in
+      let v = y *ℤ pos b in
+      let w = z *ℤ pos c in
+      cross-le (u +ℤ v +ℤ w) (pos m) (omega (arith, times-cross x a, times-cross y b, times-cross z c, add-cross u v, add-cross (u +ℤ v) w, pos-cross m))
+
+  pub sum-upper : L x * a ≡ 0 → L y * b ≡ 0 → L z * c ≡ 0 → m ≤ R x * a + R y * b + R z * c → pos m ≤ℤ (x *ℤ pos a +ℤ y *ℤ pos b +ℤ z *ℤ pos c)
+  sum-upper p q r h =
+      let u = x *ℤ pos a in
+      let v = y *ℤ pos b in
+      let w = z *ℤ pos c in
+      cross-le (pos m) (u +ℤ v +ℤ w) (omega (arith, times-cross x a, times-cross y b, times-cross z c, add-cross u v, add-cross (u +ℤ v) w, pos-cross m))
+
+pub times-sum : (z : ℤ) (a b c : ℕ) → z *ℤ pos a +ℤ z *ℤ pos b +ℤ z *ℤ pos c ≡ z *ℤ pos (a + b + c)
+times-sum z a b c =
+    let u = z *ℤ pos a in
+    let v = z *ℤ pos b in
+    let w = z *ℤ pos c in
+    from-cross (u +ℤ v +ℤ w) (z *ℤ pos (a + b + c))
+    (omega (arith, times-cross z a, times-cross z b, times-cross z c, times-cross z (a + b + c), add-cross u v, add-cross (u +ℤ v) w))

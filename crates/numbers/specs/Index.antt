@@ -1,4 +1,4 @@
--- Tests, lists and sums by index.
+-- Not the paper's: plain words on tests, lists and sums that its definitions are written in. Whoever takes the names at their word may skip this file.
 use mathlib.Core.List.{List, [], _∷_}
 use mathlib.Core.Bool.{Bool, true, _&&_}
 use Prim.Native.Nat.{ℕ, zero, suc, _+_}

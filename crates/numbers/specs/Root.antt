@@ -1,4 +1,4 @@
--- The whole square root: the greatest whole number whose square is at most x.
+-- Document 01, 'A water step': the whole square root, the greatest whole number whose square is at most x.
 -- `square-root-low`, `square-root-high` and `square-root-is` of proofs/RootLaws say that the search below finds it.
 use Prim.Native.Nat.{ℕ, suc, _*_}
 use lib.Dec.{leb}

@@ -1,4 +1,4 @@
--- One search for every 'greatest' and 'least' whole number of the model: the first, counted upwards, that cannot be raised.
+-- Document 01's 'greatest' whole numbers, by one search: the first, counted upwards, that cannot be raised.
 use mathlib.Core.Bool.{Bool, true, false}
 use Prim.Native.Nat.{ℕ, zero, suc}
 

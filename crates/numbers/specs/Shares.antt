@@ -1,5 +1,5 @@
--- A whole m shared out along parts of b, by running floors: each part's share is the floor up to its end less the floor up to its
--- start, so that no unit is lost between two parts (document 01, 'Settling'; `shares-rest` says so for any number of parts).
+-- Document 01, 'Settling': a whole m shared out along parts of b, by running floors: each part's share is the floor up to its end less the floor
+-- up to its start, so that no unit is lost between two parts (`shares-rest` says so for any number of parts).
 -- A quotient by 0 is 0 here, so all shares are 0 where b is 0.
 use mathlib.Core.List.{List, [], _∷_}
 use Prim.Native.Nat.{ℕ, _+_, _-_, _*_, _/_}

@@ -1,4 +1,4 @@
--- Signed whole numbers by their two parts. A signed z is max(z,0) − max(−z,0); `subℕ p n` of the library is p − n in ℤ.
+-- Document 01's max(z,0) and max(−z,0): a signed z is the first less the second; `subℕ p n` of the library is p − n in ℤ.
 use mathlib.Core.Bool.{Bool, cond, _&&_}
 use Prim.Native.Nat.{ℕ}
 use lib.IntN.{ℤ, pos, negsuc}

@@ -8,36 +8,13 @@ use borrow.Author.Tests.{eq-eqb, ne-eqb, le-leb, lt-leb}
 use lib.IntN.{ℤ}
 use Rattle.reach.specs.Reach.{Reach, reachOf}
 use Rattle.reach.specs.Outcome.{Outcome}
-use Rattle.reach.specs.declared.boundary.Boundary.{Boundary}
-use Rattle.reach.specs.declared.ledger.Ledger.{Ledger}
-use Rattle.stepping.specs.Step.{afterStep, step, StepCameTo}
-use Rattle.stepping.specs.declared.step.StepAnswer.{StepAnswer}
-use Rattle.stepping.proofs.StepLaws.{by-step}
-use Rattle.transport.specs.Calls.{afterTransport, transport, CameTo}
-use Rattle.transport.specs.declared.TransportAnswer.{TransportAnswer}
-use Rattle.transport.proofs.CallsLaws.{by-outcome}
-use Rattle.sheet.specs.Opening.{opening, OpenCameTo}
-use Rattle.sheet.specs.declared.opening.OpenAnswer.{OpenAnswer}
+use Rattle.reach.specs.declared.held.Held.{Held}
+use Rattle.update.specs.Step.{step}
+use Rattle.transport.specs.Calls.{transport}
+use Rattle.sheet.specs.Opening.{opening}
 use Rattle.play.specs.Play.{steps, countMost, stepsThenTransports, played}
 use Rattle.play.specs.Ranges.{PlayedTo}
 use Rattle.play.specs.declared.Ran.{Ran}
-
--- a step changes neither the bed, the cell length nor the boundaries
-kept : (s : Reach) (t : ℕ) →
-    let r = step s t .reach in
-    reachOf (s .bed) (r .depth) (r .discharge) (r .mass) (r .base) (r .carried) (s .cellLength) (s .boundaries) (r .ledger) ≡ r
-unfolding afterStep
-kept s t =
-    by-step s t
-    (λ o. let r = o .reach in
-    reachOf (s .bed) (r .depth) (r .discharge) (r .mass) (r .base) (r .carried) (s .cellLength) (s .boundaries) (r .ledger) ≡ r)
-    (λ n p. refl)
-    (λ k c d l. refl)
-
--- the record that a step left in the columns
-pub left-by-step : (s : Reach) (t : ℕ) {r : StepAnswer} {h : List ℕ} {q : List ℤ} {m b : List ℕ} {c : List ℤ} → StepCameTo s t r h q m b c
-    → reachOf (s .bed) h q m b c (s .cellLength) (s .boundaries) (r .ledger) ≡ step s t .reach
-left-by-step s t k = rw (k .depth-is, k .discharge-is, k .mass-is, k .base-is, k .carried-is, k .ledger-is) (kept s t)
 
 -- one step of those that are left
 pub steps-on : (count i t : ℕ) (s n : Reach) → i < count → step s t .refusal ≡ 0 → n ≡ step s t .reach → steps (count - i) t s ≡ steps (count - (i + 1)) t n
@@ -57,9 +34,9 @@ unfolding steps
 steps-done count i t s l m = let k : count - i ≡ 0 = omega arith in rw k refl
 
 -- what a play left, by the record in its columns
-pub left : {o : Outcome} {r : Ran} (z : List ℤ) (h : List ℕ) (q : List ℤ) (m b : List ℕ) (c : List ℤ) (X : ℕ) (es : List Boundary) {k : Ledger}
-    → r .refusal ≡ o .refusal → r .ledger ≡ k → reachOf z h q m b c X es k ≡ o .reach → PlayedTo o r z h q m b c
-left z h q m b c X es e f g = record {
+pub left : {o : Outcome} {r : Ran} (z : List ℤ) (h : List ℕ) (q : List ℤ) (m b : List ℕ) (c : List ℤ) (X : ℕ) {k : Held}
+    → r .refusal ≡ o .refusal → r .held ≡ k → reachOf z h q m b c X k ≡ o .reach → PlayedTo o r z h q m b c
+left z h q m b c X e f g = record {
   refusal-is = e;
   bed-is = ap (λ (x : Reach). x .bed) g;
   depth-is = ap (λ (x : Reach). x .depth) g;
@@ -67,7 +44,7 @@ left z h q m b c X es e f g = record {
   mass-is = ap (λ (x : Reach). x .mass) g;
   base-is = ap (λ (x : Reach). x .base) g;
   carried-is = ap (λ (x : Reach). x .carried) g;
-  ledger-is = f ∙ ap (λ (x : Reach). x .ledger) g;
+  held-is = f ∙ ap (λ (x : Reach). x .held) g;
 }
 
 module _ (s : List ℕ) (l : Reach) (count t : ℕ) where
@@ -88,20 +65,3 @@ module _ (s : List ℕ) (l : Reach) (count t : ℕ) where
       pub transported : steps count t (opening s l .reach) .refusal ≡ 0 → played s l count t ≡ transport (steps count t (opening s l .reach) .reach)
       unfolding played stepsThenTransports
       transported g = rw (eq-eqb _ _ e, le-leb _ _ f, eq-eqb _ _ g) refl
-
--- a settling changes neither the bed, the depth, the discharge, the cell length nor the boundaries
-moved : (s : Reach) →
-    let r = transport s .reach in
-    reachOf (s .bed) (s .depth) (s .discharge) (r .mass) (r .base) (r .carried) (s .cellLength) (s .boundaries) (r .ledger) ≡ r
-unfolding transport afterTransport
-moved s =
-    by-outcome s (s .boundaries)
-    (λ o. let r = o .reach in
-    reachOf (s .bed) (s .depth) (s .discharge) (r .mass) (r .base) (r .carried) (s .cellLength) (s .boundaries) (r .ledger) ≡ r)
-    (λ n p. refl)
-    (λ k g f. refl)
-
--- the record that a settling left in the columns
-pub left-by-transport : (s : Reach) {r : TransportAnswer} {m b : List ℕ} {c : List ℤ} → CameTo (transport s) r m b c
-    → reachOf (s .bed) (s .depth) (s .discharge) m b c (s .cellLength) (s .boundaries) (r .ledger) ≡ transport s .reach
-left-by-transport s k = rw (k .mass-is, k .base-is, k .carried-is, k .ledger-is) (moved s)

@@ -1,4 +1,4 @@
--- Document 01, 'Figures to meet': the program opens, steps and settles.
+-- Document 01, 'Figures to meet': the program opens, steps and transports (the paper: 'settles').
 use mathlib.Core.Bool.{cond}
 use mathlib.Core.List.{List}
 use Prim.Native.Nat.{ℕ, zero, suc}
@@ -7,7 +7,7 @@ use Rattle.reach.specs.Reach.{Reach}
 use Rattle.reach.specs.Grounds.{passOr}
 use Rattle.reach.specs.Outcome.{Outcome, outcome}
 use Rattle.transport.specs.Calls.{transport}
-use Rattle.stepping.specs.Step.{step}
+use Rattle.update.specs.Step.{step}
 use Rattle.sheet.specs.Opening.{opening}
 
 -- what a refusal stops, and what is done after an accepted call
@@ -26,6 +26,6 @@ countMost = 1_000
 unfoldable pub stepsThenTransports : (count t : ℕ) → Reach → Outcome
 stepsThenTransports count t s = andThen (outcome (passOr 10 (leb count countMost)) s s) (λ r. andThen (steps count t r) transport)
 
--- opens into the lent columns l, steps, settles
+-- opens into the lent columns l, steps, transports
 unfoldable pub played : (s : List ℕ) → Reach → (count t : ℕ) → Outcome
 played s l count t = andThen (opening s l) (stepsThenTransports count t)

@@ -1,18 +1,17 @@
-// What the program does with its input: it opens, steps and settles.
+// What the program does with its input: it opens, steps and transports.
 ghost use mathlib.Core.Path.{_≡_};
-ghost use Rattle.reach.specs.Reach.{reachOf};
-ghost use Rattle.sheet.specs.Opening.{lent};
+ghost use Rattle.reach.specs.Reach.{came};
+ghost use Rattle.sheet.specs.Opening.{noneHeld};
 ghost use Rattle.play.specs.Play.{steps, played};
 ghost use Rattle.play.specs.Ranges.{RanTo, PlayedTo};
-use reach::boundary::Boundary;
-use reach::ledger::Ledger;
+use reach::held::Held;
 use sheet::opening::open_sheet;
 use stepping::step::step;
 
-// 0 or the number of a refusal, and the ledger
+// 0 or the number of a refusal, and the boundaries and the ledger as the last call left them
 pub struct Ran {
     pub refusal: u32,
-    pub ledger: Ledger,
+    pub held: Held,
 }
 
 fn run_steps(
@@ -23,51 +22,39 @@ fn run_steps(
     base: &mut [u64],
     carried: &mut [i64],
     x: u64,
-    boundaries: [Boundary; 2],
-    ledger: Ledger,
+    held: Held,
     count: u64,
     t: u64,
 ) -> Ran
-    ensures { λ r. ⌜ RanTo (steps count t (reachOf (now (bed .entry)) (now (depth .entry)) (now (discharge .entry)) (now (mass .entry)) (now (base .entry)) (now (carried .entry)) x boundaries ledger)) r (now (bed .entry)) (now (depth .exit)) (now (discharge .exit)) (now (mass .exit)) (now (base .exit)) (now (carried .exit)) x boundaries ⌝ }
+    ensures { λ r. ⌜ RanTo (steps count t (came bed depth discharge mass base carried x held)) r (now (bed .entry)) (now (depth .exit)) (now (discharge .exit)) (now (mass .exit)) (now (base .exit)) (now (carried .exit)) x ⌝ }
 {
-    let mut held = ledger;
+    let mut last = held;
     let mut i = 0;
     while i < count {
-        let r = step(
-            bed,
-            depth,
-            discharge,
-            mass,
-            base,
-            carried,
-            x,
-            boundaries,
-            held,
-            t,
-        );
-        let next = r.ledger;
+        let r = step(bed, depth, discharge, mass, base, carried, x, last, t);
+        let next = r.held;
         if r.refusal != 0 {
             return Ran {
                 refusal: r.refusal,
-                ledger: next,
+                held: next,
             };
         }
-        held = next;
+        last = next;
         i += 1;
     }
     Ran {
         refusal: 0,
-        ledger: held,
+        held: last,
     }
 }
 
-fn came_to(refusal: u32, ledger: Ledger) -> Ran
-    ensures { λ r. ⌜ (r .refusal ≡ refusal) × (r .ledger ≡ ledger) ⌝ }
+fn came_to(refusal: u32, held: Held) -> Ran
+    ensures { λ r. ⌜ (r .refusal ≡ refusal) × (r .held ≡ held) ⌝ }
 {
-    Ran { refusal, ledger }
+    Ran { refusal, held }
 }
 
-// Opens the sheet into the lent columns, steps count times, and settles.
+// Opens the sheet into the lent columns, steps count times, and transports.
 pub fn play(
     s: &[u8],
     bed: &mut [i64],
@@ -79,11 +66,10 @@ pub fn play(
     count: u64,
     t: u64,
 ) -> Ran
-    ensures { λ r. ⌜ PlayedTo (played (now (s .entry)) (lent (now (bed .entry)) (now (depth .entry)) (now (discharge .entry)) (now (mass .entry)) (now (base .entry)) (now (carried .entry))) count t) r (now (bed .exit)) (now (depth .exit)) (now (discharge .exit)) (now (mass .exit)) (now (base .exit)) (now (carried .exit)) ⌝ }
+    ensures { λ r. ⌜ PlayedTo (played (now (s .entry)) (came bed depth discharge mass base carried 0 noneHeld) count t) r (now (bed .exit)) (now (depth .exit)) (now (discharge .exit)) (now (mass .exit)) (now (base .exit)) (now (carried .exit)) ⌝ }
 {
     let o = open_sheet(s, bed, depth, discharge, mass, base, carried);
-    let opened = o.ledger;
-    let boundaries = o.boundaries;
+    let opened = o.held;
     if o.refusal != 0 {
         return came_to(o.refusal, opened);
     }
@@ -99,25 +85,14 @@ pub fn play(
         base,
         carried,
         x,
-        boundaries,
         opened,
         count,
         t,
     );
-    let stepped = r.ledger;
+    let stepped = r.held;
     if r.refusal != 0 {
         return came_to(r.refusal, stepped);
     }
-    let a = transport::transport(
-        bed,
-        depth,
-        discharge,
-        mass,
-        base,
-        carried,
-        x,
-        boundaries,
-        stepped,
-    );
-    came_to(a.refusal, a.ledger)
+    let a = transport::transport(bed, depth, discharge, mass, base, carried, x, stepped);
+    came_to(a.refusal, a.held)
 }

@@ -10,7 +10,7 @@ use lib.ListN.{length, take, replicate}
 use Rattle.reach.specs.Reach.{Reach}
 use Rattle.reach.specs.Outcome.{Outcome}
 use Rattle.reach.specs.declared.ledger.Ledger.{Ledger}
-use Rattle.sheet.specs.Bytes.{numberAt}
+use Rattle.encoding.specs.FromBytes.{numberAt}
 use Rattle.sheet.specs.Opening.{lent}
 use Rattle.play.specs.Play.{played}
 use Rattle.play.specs.Ranges.{PlayedTo}
@@ -23,11 +23,11 @@ pub refused-text : {o : Outcome} {r : Ran} {z : List ℤ} {h : List ℕ} {q : Li
 unfolding outcomeText
 refused-text {o} k n = rw (ne-eqb (o .refusal) 0 (λ z. n (k .refusal-is ∙ z)), ← k .refusal-is) refl
 
-pub report-text : {o : Outcome} {r : Ran} {z : List ℤ} {h : List ℕ} {q : List ℤ} {m b : List ℕ} {c : List ℤ} → PlayedTo o r z h q m b c → r .refusal ≡ 0 → reportText h q m (r .ledger) ≡ outcomeText o
+pub report-text : {o : Outcome} {r : Ran} {z : List ℤ} {h : List ℕ} {q : List ℤ} {m b : List ℕ} {c : List ℤ} → PlayedTo o r z h q m b c → r .refusal ≡ 0 → reportText h q m (r .held .ledger) ≡ outcomeText o
 unfolding outcomeText
 report-text {o} k e =
     let z = sym (k .refusal-is) ∙ e in
-    rw (eq-eqb (o .refusal) 0 z, k .depth-is, k .discharge-is, k .mass-is, k .ledger-is) refl
+    rw (eq-eqb (o .refusal) 0 z, k .depth-is, k .discharge-is, k .mass-is, k .held-is) refl
 
 -- the columns that the program lends
 take-replicate : {A : Type 0} (x : A) (m n : ℕ) → n ≤ m → take n (replicate m x) ≡ replicate n x

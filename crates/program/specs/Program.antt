@@ -6,7 +6,7 @@ use lib.Dec.{ltb}
 use lib.IntN.{pos}
 use lib.ListN.{length, take, replicate}
 use Rattle.reach.specs.Reach.{Reach}
-use Rattle.sheet.specs.Bytes.{numberAt}
+use Rattle.encoding.specs.FromBytes.{numberAt}
 use Rattle.sheet.specs.Header.{headerSize}
 use Rattle.sheet.specs.Opening.{lent}
 use Rattle.play.specs.Play.{played}

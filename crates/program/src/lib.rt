@@ -9,11 +9,11 @@ ghost use Rattle.play.specs.Play.{played};
 ghost use Rattle.report.specs.Report.{outcomeText};
 ghost use Rattle.text.specs.Text.{Put};
 ghost use Rattle.program.specs.Program.{programText};
+use encoding::reading::read_number;
 use play::play;
 use reach::cells::CELLS_MOST;
 use report::put_refused;
 use report::put_report;
-use sheet::bytes::read_number;
 use sheet::header::HEADER_SIZE;
 
 // Bytes of the step count and t behind the sheet, of a cell in a sheet, and of the longest input
@@ -41,7 +41,7 @@ fn answer(
     ensures { λ _. ⌜ Put (now (out .entry)) 0 (outcomeText (played (now (s .entry)) (lent (now (bed .entry)) (now (depth .entry)) (now (discharge .entry)) (now (mass .entry)) (now (base .entry)) (now (carried .entry))) count t)) (now (out .exit)) ⌝ }
 {
     let r = play(s, bed, depth, discharge, mass, base, carried, count, t);
-    let ledger = r.ledger;
+    let ledger = r.held.ledger;
     if r.refusal != 0 {
         return put_refused(out, r.refusal);
     }

@@ -12,6 +12,8 @@ use Rattle.numbers.specs.Signed.{eqℤ}
 use Rattle.numbers.proofs.SignedLaws.{R, L, abs-parts, eqℤ-is, add-cross, minus-cross, pos-cross}
 use Rattle.flux.specs.Limits.{depthMost}
 use Rattle.reach.specs.Grounds.{carriedFits}
+use Rattle.reach.specs.Parts.{outflow}
+use Rattle.reach.proofs.PartsLaws.{outflow-is}
 
 -- two equations that say the same
 same-test : (a b c d : ℕ) → a + d ≡ c + b → eqb a b ≡ eqb c d
@@ -40,4 +42,5 @@ carried-is h b l r {leftIn} {leftOut} {rightIn} {rightOut} p q s t =
     eqℤ-is (pos h) (y -ℤ r)
     ∙ same-test (h + L (y -ℤ r)) (R (y -ℤ r) + L (pos h)) (h + leftOut + rightOut) (b + leftIn + rightIn)
     (omega (arith, minus-cross y r, add-cross (pos b) l, pos-cross b, pos-cross h)) in
-    rw (left, right, balance, ← q, ← t) refl
+    let out : outflow l r ≡ rightOut + leftOut = omega (arith, outflow-is l r) in
+    rw (left, right, balance, out) refl

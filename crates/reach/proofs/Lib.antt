@@ -1,3 +1,4 @@
+pub mod PartsLaws
 pub mod GroundsLaws
 pub mod CarriedLaws
 pub mod Sound

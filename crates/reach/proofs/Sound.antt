@@ -2,7 +2,7 @@
 use mathlib.Core.Path.{_≡_, refl, sym, ap, _∙_}
 use mathlib.Core.List.{List}
 use mathlib.Core.Bool.{Bool, true, false, cond}
-use Prim.Native.Nat.{ℕ, zero, suc, _+_, _*_, _≤_, _<_}
+use Prim.Native.Nat.{ℕ, _+_, _*_, _≤_, _<_}
 use native.Mathlib.Omega.{arith}
 use lib.IntN.{ℤ, pos, negsuc, negℤ, natAbs}
 use lib.ListN.{length, getD}
@@ -15,12 +15,14 @@ use Rattle.flux.specs.Limits.{depthMost, velocityMost, bedMost, concentrationMo
 use Rattle.reach.specs.Limits.{cellsMost, carriedMost, totalMost, wall, openBoundary, fed}
 use Rattle.reach.specs.Reach.{Reach, cells, bedAt, depthAt, dischargeAt, massAt, baseAt, carriedAt, leftBoundary, rightBoundary}
 use Rattle.reach.specs.Grounds.{firstRefusal, recordGrounds, passOr, lengthsFit, cellLengthFits, wallFits, openFits, fedFits, kindFits, boundaryFits, boundariesFit, cellFits, cellsFit, carriedFits, shutFits, carriedCellsFit, carriedFit, totalsFit, ledgerFits}
+use Rattle.reach.specs.Parts.{outflow}
 use Rattle.reach.specs.declared.boundary.Boundary.{Boundary}
 use Rattle.reach.specs.declared.ledger.Totals.{Totals}
 use Rattle.reach.specs.declared.ledger.Ledger.{Ledger}
 use Rattle.reach.specs.declared.refusal.Check.the-variants.{Pass}
 use Rattle.reach.proofs.GroundsLaws.{stood, go-on, last-one}
 use Rattle.reach.proofs.CarriedLaws.{carried-is}
+use Rattle.reach.proofs.PartsLaws.{outflow-is}
 
 -- ---- 4
 
@@ -127,8 +129,8 @@ cells-sound z h q m b e i l = cell-sound _ _ _ _ _ (all-at _ (length z) i e l)
 pub record CarriedSound (h b : ℕ) (l r : ℤ) : Type 0 where
   pub left : natAbs l ≤ carriedMost
   pub right : natAbs r ≤ carriedMost
-  pub balance : h + positive r + positive (negℤ l) ≡ b + positive l + positive (negℤ r)
-  pub covered : positive r + positive (negℤ l) ≤ b
+  pub balance : h + outflow l r ≡ b + positive l + positive (negℤ r)
+  pub covered : outflow l r ≤ b
 
 module _ (h b : ℕ) (l r : ℤ) where
   carried-sound : carriedFits h b l r ≡ true → CarriedSound h b l r
@@ -137,15 +139,21 @@ module _ (h b : ℕ) (l r : ℤ) where
       record {
         left = omega (arith, abs-parts l, leb-true (R l + L l) depthMost (t 0));
         right = omega (arith, abs-parts r, leb-true (L r + R r) depthMost (t 1));
-        balance = omega (arith, eqb-true (h + L l + R r) (b + R l + L r) (t 2));
-        covered = leb-true _ _ (t 3);
+        balance = omega (arith, outflow-is l r, eqb-true (h + L l + R r) (b + R l + L r) (t 2));
+        covered = omega (arith, outflow-is l r, leb-true (R r + L l) b (t 3));
       }
 
   carried-stands : CarriedSound h b l r → carriedFits h b l r ≡ true
   carried-stands s =
       carried-is h b l r refl refl refl refl
       ∙ on _ _ (le-leb (R l + L l) depthMost (omega (arith, abs-parts l))) (on _ _ (le-leb (L r + R r) depthMost (omega (arith, abs-parts r)))
-      (on _ _ (eq-eqb (h + L l + R r) (b + R l + L r) (omega arith)) (only _ ∙ le-leb _ _ (s .covered))))
+      (on _ _ (eq-eqb (h + L l + R r) (b + R l + L r) (omega (arith, outflow-is l r))) (only _ ∙ le-leb (R r + L l) b (omega (arith, outflow-is l r)))))
+
+-- where nothing is carried, depth and base depth may agree
+pub none-carried : (h : ℕ) → CarriedSound h h (pos 0) (pos 0)
+none-carried h =
+    let o = outflow-is (pos 0) (pos 0) in
+    record { left = omega arith; right = omega arith; balance = omega arith; covered = omega arith }
 
 no-size : (z : ℤ) → natAbs z ≡ 0 → z ≡ pos 0
 no-size (pos n) e = ap pos e
@@ -198,14 +206,14 @@ pub record Sound (s : Reach) : Type 0 where
   pub interfaces : length (s .carried) ≡ cells s + 1
   pub lengthLeast : cellLengthLeast ≤ s .cellLength
   pub lengthMost : s .cellLength ≤ cellLengthMost
-  pub left : BoundarySound (leftBoundary (s .boundaries))
-  pub right : BoundarySound (rightBoundary (s .boundaries))
-  pub boundaries : boundariesFit (s .boundaries) ≡ true
+  pub left : BoundarySound (leftBoundary (s .held .boundaries))
+  pub right : BoundarySound (rightBoundary (s .held .boundaries))
+  pub boundaries : boundariesFit (s .held .boundaries) ≡ true
   pub cell : (i : ℕ) → i < cells s → CellSound (bedAt s i) (depthAt s i) (dischargeAt s i) (massAt s i) (baseAt s i)
   pub water : (i : ℕ) → i < cells s → CarriedSound (depthAt s i) (baseAt s i) (carriedAt s i) (carriedAt s (i + 1))
-  pub shutLeft : leftBoundary (s .boundaries) .kind ≡ wall → carriedAt s 0 ≡ pos 0
-  pub shutRight : rightBoundary (s .boundaries) .kind ≡ wall → carriedAt s (cells s) ≡ pos 0
-  pub ledger : ledgerFits (s .ledger) ≡ true
+  pub shutLeft : leftBoundary (s .held .boundaries) .kind ≡ wall → carriedAt s 0 ≡ pos 0
+  pub shutRight : rightBoundary (s .held .boundaries) .kind ≡ wall → carriedAt s (cells s) ≡ pos 0
+  pub ledger : ledgerFits (s .held .ledger) ≡ true
 
 module _ (s : Reach) (es : List Boundary) where
   pub sound : firstRefusal (recordGrounds s es) ≡ Pass → Sound s
@@ -232,7 +240,7 @@ module _ (s : Reach) (es : List Boundary) where
         cell = cells-sound _ _ _ _ _ (t 4);
         water = λ i l. carried-sound _ _ _ _ (all-at _ (length (s .depth)) i (water 0) (omega arith));
         shutLeft = shut-sound _ _ (water 1);
-        shutRight = rw (n .depths) at (shut-sound (rightBoundary (s .boundaries) .kind) (carriedAt s (length (s .depth))) (water 2));
+        shutRight = rw (n .depths) at (shut-sound (rightBoundary (s .held .boundaries) .kind) (carriedAt s (length (s .depth))) (water 2));
         ledger = t 6;
       }
 

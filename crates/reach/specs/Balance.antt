@@ -1,7 +1,9 @@
--- What demand 3 measures of a record: water and mass held, what the ledger says came in and went out, and bounds on the concentration.
+-- Demand 3: what it measures of a record: water and mass held, what the ledger says came in and went out, and bounds on the concentration.
 use mathlib.Core.Path.{_≡_}
 use mathlib.Core.List.{List}
-use Prim.Native.Nat.{ℕ, _+_, _*_, _≤_, _<_}
+use Prim.Native.Nat.{ℕ, _+_, _<_}
+use lib.IntN.{ℤ, pos, _*ℤ_}
+use lib.Signed.{_≤ℤ_}
 use Rattle.numbers.specs.Index.{sum}
 use Rattle.reach.specs.Limits.{wall}
 use Rattle.reach.specs.Reach.{Reach, cells, massAt, baseAt, leftBoundary, rightBoundary}
@@ -19,7 +21,7 @@ waterOut k = k .left .«water_out» + k .right .«water_out»
 
 -- from s to t no water is lost or made: what is held changes by what the ledger gained in less what it gained out
 unfoldable pub WaterBalanced : (s t : Reach) → Type 0
-WaterBalanced s t = waterHeld t + waterOut (t .ledger) + waterIn (s .ledger) ≡ waterHeld s + waterOut (s .ledger) + waterIn (t .ledger)
+WaterBalanced s t = waterHeld t + waterOut (t .held .ledger) + waterIn (s .held .ledger) ≡ waterHeld s + waterOut (s .held .ledger) + waterIn (t .held .ledger)
 
 unfoldable pub massHeld : Reach → ℕ
 massHeld s = sum (s .mass)
@@ -32,18 +34,23 @@ massOut k = k .left .«mass_out» + k .right .«mass_out»
 
 -- the same of mass
 unfoldable pub MassBalanced : (s t : Reach) → Type 0
-MassBalanced s t = massHeld t + massOut (t .ledger) + massIn (s .ledger) ≡ massHeld s + massOut (s .ledger) + massIn (t .ledger)
+MassBalanced s t = massHeld t + massOut (t .held .ledger) + massIn (s .held .ledger) ≡ massHeld s + massOut (s .held .ledger) + massIn (t .held .ledger)
+
+-- Bounds are whole numbers by place: 0 the left boundary, 1..n the cells, n+1 the right boundary. A number by itself, at every place:
+abbrev pub everywhere : ℤ → ℕ → ℤ
+everywhere z place = z
 
 -- two numbers bound a cell when m is at least the lower times b and at most the upper times b
-pub record CellsWithin (lo hi : ℕ) (s : Reach) : Type 0 where
-  pub above : (i : ℕ) → i < cells s → lo * baseAt s i ≤ massAt s i
-  pub below : (i : ℕ) → i < cells s → massAt s i ≤ hi * baseAt s i
+pub record CellsWithin (lo hi : ℕ → ℤ) (s : Reach) : Type 0 where
+  pub above : (i : ℕ) → i < cells s → (lo (i + 1) *ℤ pos (baseAt s i)) ≤ℤ pos (massAt s i)
+  pub below : (i : ℕ) → i < cells s → pos (massAt s i) ≤ℤ (hi (i + 1) *ℤ pos (baseAt s i))
 
--- and an end, but a wall, when its concentration lies from the lower to the upper
-pub record BoundaryWithin (lo hi : ℕ) (e : Boundary) : Type 0 where
-  pub above : (e .kind ≡ wall → ⊥) → lo ≤ e .concentration
-  pub below : (e .kind ≡ wall → ⊥) → e .concentration ≤ hi
+-- and a boundary, but a wall, when its concentration lies from the lower to the upper
+pub record BoundaryWithin (lo hi : ℤ) (e : Boundary) : Type 0 where
+  pub above : (e .kind ≡ wall → ⊥) → lo ≤ℤ pos (e .concentration)
+  pub below : (e .kind ≡ wall → ⊥) → pos (e .concentration) ≤ℤ hi
 
-pub record BoundariesWithin (lo hi : ℕ) (es : List Boundary) : Type 0 where
-  pub left : BoundaryWithin lo hi (leftBoundary es)
-  pub right : BoundaryWithin lo hi (rightBoundary es)
+-- both boundaries of n cells
+pub record BoundariesWithin (lo hi : ℕ → ℤ) (n : ℕ) (es : List Boundary) : Type 0 where
+  pub left : BoundaryWithin (lo 0) (hi 0) (leftBoundary es)
+  pub right : BoundaryWithin (lo (n + 1)) (hi (n + 1)) (rightBoundary es)

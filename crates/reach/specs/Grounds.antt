@@ -2,14 +2,15 @@
 use mathlib.Core.List.{List, [], _∷_}
 use mathlib.Core.Bool.{Bool, true, false, cond}
 use Prim.Native.Nat.{ℕ, _+_, _*_}
-use lib.IntN.{ℤ, pos, _+ℤ_, _-ℤ_, negℤ, natAbs}
+use lib.IntN.{ℤ, pos, _+ℤ_, _-ℤ_, natAbs}
 use lib.ListN.{length, getD}
 use lib.Dec.{leb, eqb}
 use Rattle.numbers.specs.Index.{allOf, allBelow}
-use Rattle.numbers.specs.Signed.{positive, eqℤ}
+use Rattle.numbers.specs.Signed.{eqℤ}
 use Rattle.flux.specs.Limits.{depthMost, velocityMost, bedMost, concentrationMost, cellLengthLeast, cellLengthMost}
 use Rattle.reach.specs.Limits.{cellsMost, carriedMost, totalMost, wall, openBoundary, fed}
 use Rattle.reach.specs.Reach.{Reach, leftBoundary, rightBoundary}
+use Rattle.reach.specs.Parts.{outflow}
 use Rattle.reach.specs.declared.boundary.Boundary.{Boundary}
 use Rattle.reach.specs.declared.ledger.Totals.{Totals}
 use Rattle.reach.specs.declared.ledger.Ledger.{Ledger}
@@ -92,14 +93,14 @@ cellsFit z h q m b =
 -- ---- 8: the carried water keeps its rules
 
 -- at a cell of depth h and base depth b with l carried over its left and r over its right:
--- |c| ≤ 4,000,000, h = b + c(i) − c(i+1), and max(c(i+1),0) + max(−c(i),0) ≤ b
+-- |c| ≤ 4,000,000, h = b + c(i) − c(i+1), and max(c(i+1),0) + max(−c(i),0) ≤ b: no more left than the base depth
 unfoldable pub carriedFits : (h b : ℕ) (l r : ℤ) → Bool
 carriedFits h b l r =
     allOf
     (leb (natAbs l) carriedMost
     ∷ leb (natAbs r) carriedMost
     ∷ eqℤ (pos h) (pos b +ℤ l -ℤ r)
-    ∷ leb (positive r + positive (negℤ l)) b
+    ∷ leb (outflow l r) b
     ∷ [])
 
 -- at a wall c is 0
@@ -132,9 +133,9 @@ abbrev pub recordGrounds : Reach → List Boundary → List Ground
 recordGrounds s es =
     ground 4 (lengthsFit (length (s .bed)) (length (s .depth)) (length (s .discharge)) (length (s .mass)) (length (s .base)) (length (s .carried)))
     ∷ ground 5 (cellLengthFits (s .cellLength))
-    ∷ ground 6 (boundariesFit (s .boundaries))
+    ∷ ground 6 (boundariesFit (s .held .boundaries))
     ∷ ground 6 (boundariesFit es)
     ∷ ground 7 (cellsFit (s .bed) (s .depth) (s .discharge) (s .mass) (s .base))
-    ∷ ground 8 (carriedFit (s .depth) (s .base) (s .carried) (leftBoundary (s .boundaries) .kind) (rightBoundary (s .boundaries) .kind))
-    ∷ ground 9 (ledgerFits (s .ledger))
+    ∷ ground 8 (carriedFit (s .depth) (s .base) (s .carried) (leftBoundary (s .held .boundaries) .kind) (rightBoundary (s .held .boundaries) .kind))
+    ∷ ground 9 (ledgerFits (s .held .ledger))
     ∷ []

@@ -13,7 +13,7 @@ carriedMost = 4_000_000
 abbrev pub totalMost : ℕ
 totalMost = 1_000_000_000_000_000_000
 
--- kinds of boundary: a 'wall', an 'open' end, a 'fed' end
+-- kinds of boundary: a wall, an open and a fed one
 abbrev pub wall : ℕ
 wall = 0
 

@@ -1,4 +1,4 @@
--- What a call comes to: the number of its refusal, 0 for none, and the record that it leaves.
+-- Document 01, 'Grounds for refusal': what a call comes to, the number of its refusal, 0 for none, and the record that it leaves.
 use Prim.Native.Nat.{ℕ}
 use Rattle.reach.specs.Reach.{Reach}
 use Rattle.reach.specs.declared.refusal.Check.{Check}

@@ -1,4 +1,4 @@
--- What the later checks require of the columns: what the earlier ones found.
+-- Not the paper's: what the inner functions require and give. A reader of the model may skip this file.
 use mathlib.Core.Path.{_≡_}
 use mathlib.Core.List.{List}
 use Prim.Native.Nat.{ℕ, _+_, _≤_, _<_}

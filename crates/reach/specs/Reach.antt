@@ -1,10 +1,13 @@
 -- Document 01, 'What a record holds': the record of a reach as a call is given it, with the boundaries (the paper's 'ends') and the
 -- ledger (its 'book') that travel with it.
 use mathlib.Core.List.{List}
+use denote.Ref.{RefT, now}
+use denote.Triple.Both.{Both}
 use Prim.Native.Nat.{ℕ}
 use lib.IntN.{ℤ, pos}
 use lib.ListN.{length, getD}
 use Rattle.reach.specs.declared.boundary.Boundary.{Boundary}
+use Rattle.reach.specs.declared.held.Held.{Held}
 use Rattle.reach.specs.declared.ledger.Ledger.{Ledger}
 
 pub record Reach : Type 0 where
@@ -20,12 +23,26 @@ pub record Reach : Type 0 where
   pub carried : List ℤ
   -- X, mm
   pub cellLength : ℕ
-  -- the left and the right boundary
-  pub boundaries : List Boundary
-  pub ledger : Ledger
+  -- the boundaries, left and right, and the ledger
+  pub held : Held
 
-abbrev pub reachOf : List ℤ → List ℕ → List ℤ → List ℕ → List ℕ → List ℤ → ℕ → List Boundary → Ledger → Reach
-reachOf z h q m b c X es k = record { bed = z; depth = h; discharge = q; mass = m; base = b; carried = c; cellLength = X; boundaries = es; ledger = k }
+abbrev pub reachOf : List ℤ → List ℕ → List ℤ → List ℕ → List ℕ → List ℤ → ℕ → Held → Reach
+reachOf z h q m b c X k = record { bed = z; depth = h; discharge = q; mass = m; base = b; carried = c; cellLength = X; held = k }
+
+-- the record that a call is given, by the names of its parameters: the columns at its entry, X, and what it holds
+abbrev pub came : Both (RefT (List ℤ)) (RefT (List ℤ)) → Both (RefT (List ℕ)) (RefT (List ℕ)) → Both (RefT (List ℤ)) (RefT (List ℤ)) → Both (RefT (List ℕ)) (RefT (List ℕ)) → Both (RefT (List ℕ)) (RefT (List ℕ)) → Both (RefT (List ℤ)) (RefT (List ℤ)) → ℕ → Held → Reach
+came z h q m b c X k = reachOf (now (z .entry)) (now (h .entry)) (now (q .entry)) (now (m .entry)) (now (b .entry)) (now (c .entry)) X k
+
+-- what is held, made of a pair of boundaries and a ledger; with another pair; with another ledger. A field that is added stands here, and
+-- not where one of these is named
+abbrev pub heldWith : List Boundary → Ledger → Held
+heldWith es k = record { boundaries = es; ledger = k }
+
+abbrev pub withBoundaries : List Boundary → Held → Held
+withBoundaries es h = record { boundaries = es; ledger = h .ledger }
+
+abbrev pub withLedger : Ledger → Held → Held
+withLedger k h = record { boundaries = h .boundaries; ledger = k }
 
 -- n
 abbrev pub cells : Reach → ℕ

@@ -9,7 +9,7 @@ use numbers::signed::magnitude;
 pub struct Boundary {
     // 0 wall, 1 open, 2 fed
     pub kind: u32,
-    // always 0: the paper's 'zero field' of an end
+    // always 0: the paper's 'zero field'
     pub reserved: u32,
     // micrometres
     pub depth: u64,
@@ -17,6 +17,12 @@ pub struct Boundary {
     pub concentration: u64,
     // micrometres times mm/s, positive rightwards
     pub discharge: i64,
+}
+
+// Which of the two a boundary is
+pub enum BoundaryPlace {
+    Left,
+    Right,
 }
 
 pub const WALL: u32 = 0;

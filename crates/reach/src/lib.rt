@@ -6,11 +6,12 @@
 pub mod boundary;
 pub mod carried;
 pub mod cells;
+pub mod held;
 pub mod ledger;
 pub mod refusal;
 
 ghost use mathlib.Core.Path.{_≡_};
-ghost use Rattle.reach.specs.Reach.{reachOf};
+ghost use Rattle.reach.specs.Reach.{came};
 ghost use Rattle.reach.specs.Grounds.{recordGrounds, firstRefusal};
 use boundary::Boundary;
 use boundary::check_boundaries;
@@ -18,7 +19,7 @@ use carried::check_carried;
 use cells::check_cell_length;
 use cells::check_cells;
 use cells::check_lengths;
-use ledger::Ledger;
+use held::Held;
 use ledger::check_ledger;
 use refusal::Check;
 
@@ -32,11 +33,10 @@ pub fn check_record(
     base: &[u64],
     carried: &[i64],
     x: u64,
-    boundaries: [Boundary; 2],
-    ledger: Ledger,
+    held: Held,
     given: [Boundary; 2],
 ) -> Check
-    ensures { λ r. ⌜ r ≡ firstRefusal (recordGrounds (reachOf (now (bed .entry)) (now (depth .entry)) (now (discharge .entry)) (now (mass .entry)) (now (base .entry)) (now (carried .entry)) x boundaries ledger) given) ⌝ }
+    ensures { λ r. ⌜ r ≡ firstRefusal (recordGrounds (came bed depth discharge mass base carried x held) given) ⌝ }
 {
     let Check::Pass = check_lengths(bed, depth, discharge, mass, base, carried) else {
         return Check::Refused(4);
@@ -44,7 +44,7 @@ pub fn check_record(
     let Check::Pass = check_cell_length(x) else {
         return Check::Refused(5);
     };
-    let Check::Pass = check_boundaries(boundaries) else {
+    let Check::Pass = check_boundaries(held.boundaries) else {
         return Check::Refused(6);
     };
     let Check::Pass = check_boundaries(given) else {
@@ -53,9 +53,14 @@ pub fn check_record(
     let Check::Pass = check_cells(bed, depth, discharge, mass, base) else {
         return Check::Refused(7);
     };
-    let Check::Pass = check_carried(depth, base, carried, boundaries[0].kind, boundaries[1].kind)
-    else {
+    let Check::Pass = check_carried(
+        depth,
+        base,
+        carried,
+        held.boundaries[0].kind,
+        held.boundaries[1].kind,
+    ) else {
         return Check::Refused(8);
     };
-    check_ledger(ledger)
+    check_ledger(held.ledger)
 }

@@ -24,7 +24,7 @@ refusedWord = 114 ∷ 101 ∷ 102 ∷ 117 ∷ 115 ∷ 101 ∷ 100 ∷ 32 ∷ []
 unfoldable pub spaced : ℕ → List ℕ
 spaced n = (32 ∷ []) ++ decimal n
 
--- a line per cell: index from 0, depth, discharge, nutrient
+-- a line per cell: index from 0, depth, discharge, mass
 unfoldable pub cellLine : (i h : ℕ) (q : ℤ) (m : ℕ) → List ℕ
 cellLine i h q m = decimal i ++ spaced h ++ (32 ∷ []) ++ signedDecimal q ++ spaced m ++ (10 ∷ [])
 
@@ -33,7 +33,7 @@ unfoldable pub cellLines : (h : List ℕ) (q : List ℤ) (m : List ℕ) (k : ℕ
 cellLines h q m zero = []
 cellLines h q m (suc k) = cellLines h q m k ++ cellLine k (getD h k 0) (getD q k (pos 0)) (getD m k 0)
 
--- the totals of one end in the order of document 01
+-- the totals of one boundary in the order of document 01
 unfoldable pub totalsText : Totals → List ℕ
 totalsText t = spaced (t .«water_in») ++ spaced (t .«water_out») ++ spaced (t .«mass_in») ++ spaced (t .«mass_out»)
 
@@ -55,4 +55,4 @@ refusedText n = refusedWord ++ decimal n ++ (10 ∷ [])
 unfoldable pub outcomeText : Outcome → List ℕ
 outcomeText o =
     let s = o .reach in
-    cond (eqb (o .refusal) 0) (reportText (s .depth) (s .discharge) (s .mass) (s .ledger)) (refusedText (o .refusal))
+    cond (eqb (o .refusal) 0) (reportText (s .depth) (s .discharge) (s .mass) (s .held .ledger)) (refusedText (o .refusal))

@@ -7,12 +7,12 @@ use lib.IntN.{ℤ, pos, negsuc}
 use lib.ListN.{length, getD, length-append}
 use lib.Seq.{getD-append-add, drop-append-seam, take-append-seam}
 use Rattle.reach.specs.declared.boundary.Boundary.{Boundary}
-use Rattle.sheet.specs.Bytes.{twos}
-use Rattle.sheet.proofs.BytesLaws.{twos-low, twos-high}
-use Rattle.tally.specs.Call.{Call, stepCall, transportCall, boundariesCall, greatestCall, writeCall, openCall}
+use Rattle.encoding.specs.FromBytes.{twos}
+use Rattle.encoding.proofs.FromBytesLaws.{twos-low, twos-high}
+use Rattle.tally.specs.Call.{Call, Entry, stepCall, transportCall, boundariesCall, greatestCall, writeCall, openCall}
 use Rattle.tally.specs.Holds.{Each}
-use Rattle.script.specs.Script.{boundaryFrom, part, callAt, callsFrom, script}
-use Rattle.script.specs.Every.{Word, HalfWord, Byte, SignedWord, Stored, Given, sheetsSize, EveryList}
+use Rattle.script.specs.Script.{boundaryFrom, part, callAt, entriesFrom, script}
+use Rattle.script.specs.Every.{Word, HalfWord, Byte, SignedWord, Stored, Given, EntryGiven, sheetPart, sheetsSize, EveryList}
 
 -- ---- the memory of a list
 
@@ -21,7 +21,7 @@ bitsOf : ℤ → ℕ
 bitsOf (pos n) = n
 bitsOf (negsuc n) = 18_446_744_073_709_551_616 - suc n
 
--- only a pair of ends is ever given
+-- only a pair of boundaries is ever given
 tenOf : List Boundary → List ℕ
 tenOf [] = 0 ∷ 0 ∷ 0 ∷ 0 ∷ 0 ∷ 0 ∷ 0 ∷ 0 ∷ 0 ∷ 0 ∷ []
 tenOf (e ∷ []) = 0 ∷ 0 ∷ 0 ∷ 0 ∷ 0 ∷ 0 ∷ 0 ∷ 0 ∷ 0 ∷ 0 ∷ []
@@ -39,14 +39,6 @@ oneOf start greatestCall = 3 ∷ 0 ∷ 0 ∷ tenOf []
 oneOf start (writeCall room) = 4 ∷ room ∷ 0 ∷ tenOf []
 oneOf start (openCall sheet) = 5 ∷ start ∷ (start + length sheet) ∷ tenOf []
 
-sheetOf : Call → List ℕ
-sheetOf (stepCall t) = []
-sheetOf transportCall = []
-sheetOf (boundariesCall es) = []
-sheetOf greatestCall = []
-sheetOf (writeCall room) = []
-sheetOf (openCall sheet) = sheet
-
 roomBy : Call → ℕ
 roomBy (stepCall t) = 0
 roomBy transportCall = 0
@@ -55,18 +47,21 @@ roomBy greatestCall = 0
 roomBy (writeCall room) = room
 roomBy (openCall sheet) = 0
 
-wordsOf : (start : ℕ) → List Call → List ℕ
-wordsOf start [] = []
-wordsOf start (c ∷ cs) = oneOf start c ++ wordsOf (start + length (sheetOf c)) cs
+abbrev entry : Call → Entry
+entry c = record { free = record {}; call = c }
 
-sheetsOf : List Call → List ℕ
+wordsOf : (start : ℕ) → List Entry → List ℕ
+wordsOf start [] = []
+wordsOf start (e ∷ es) = oneOf start (e .call) ++ wordsOf (start + length (sheetPart (e .call))) es
+
+sheetsOf : List Entry → List ℕ
 sheetsOf [] = []
-sheetsOf (c ∷ cs) = sheetOf c ++ sheetsOf cs
+sheetsOf (e ∷ es) = sheetPart (e .call) ++ sheetsOf es
 
 -- the greatest room of a write
-roomOf : List Call → ℕ
+roomOf : List Entry → ℕ
 roomOf [] = 0
-roomOf (c ∷ cs) = max (roomBy c) (roomOf cs)
+roomOf (e ∷ es) = max (roomBy (e .call)) (roomOf es)
 
 -- ---- lengths
 
@@ -86,21 +81,12 @@ one-length start greatestCall = refl
 one-length start (writeCall room) = refl
 one-length start (openCall sheet) = refl
 
-words-length : (start : ℕ) (cs : List Call) → length (wordsOf start cs) ≡ 13 * length cs
+words-length : (start : ℕ) (es : List Entry) → length (wordsOf start es) ≡ 13 * length es
 unfolding wordsOf
 words-length start [] = refl
-words-length start (c ∷ cs) =
-    let at = start + length (sheetOf c) in
-    length-append (oneOf start c) (wordsOf at cs) ∙ omega (arith, one-length start c, words-length at cs)
-
-size-one : (c : Call) (cs : List Call) → sheetsSize (c ∷ cs) ≡ length (sheetOf c) + sheetsSize cs
-unfolding sheetsSize sheetOf
-size-one (stepCall t) cs = omega arith
-size-one transportCall cs = omega arith
-size-one (boundariesCall es) cs = omega arith
-size-one greatestCall cs = omega arith
-size-one (writeCall room) cs = omega arith
-size-one (openCall sheet) cs = refl
+words-length start (e ∷ es) =
+    let at = start + length (sheetPart (e .call)) in
+    length-append (oneOf start (e .call)) (wordsOf at es) ∙ omega (arith, one-length start (e .call), words-length at es)
 
 -- ---- what stands behind other words is read as if it stood alone
 
@@ -129,13 +115,13 @@ call-past p q sheets room n k e =
       boundary-past p q (n + 8) (k + 8) (omega arith),
     )
 
--- one call's words past
-calls-past : (p q sheets : List ℕ) (room j k : ℕ) → length p ≡ 13 → callsFrom (p ++ q) sheets room (suc j) k ≡ callsFrom q sheets room j k
-unfolding callsFrom
-calls-past p q sheets room j zero e = refl
-calls-past p q sheets room j (suc k) e =
-    ap₂ (λ (c : Call) (cs : List Call). c ∷ cs) (call-past p q sheets room (13 * j) (13 * suc j) (omega arith))
-    (calls-past p q sheets room (suc j) k e)
+-- one entry's words past
+entries-past : (p q sheets : List ℕ) (room j k : ℕ) → length p ≡ 13 → entriesFrom (p ++ q) sheets room (suc j) k ≡ entriesFrom q sheets room j k
+unfolding entriesFrom
+entries-past p q sheets room j zero e = refl
+entries-past p q sheets room j (suc k) e =
+    ap₂ (λ (c : Call) (es : List Entry). entry c ∷ es) (call-past p q sheets room (13 * j) (13 * suc j) (omega arith))
+    (entries-past p q sheets room (suc j) k e)
 
 -- ---- one call read back
 
@@ -175,8 +161,8 @@ part-back front s tail sheets e =
     rw (a, b, e, drop-append-seam front (s ++ tail)) (take-append-seam s tail)
 
 one-back : (c : Call) (start : ℕ) (front tail sheets q : List ℕ) (room : ℕ) → Given c → length front ≡ start
-    → sheets ≡ front ++ (sheetOf c ++ tail) → roomBy c ≤ room → callAt (oneOf start c ++ q) sheets room 0 ≡ c
-unfolding callAt oneOf tenOf sheetOf roomBy
+    → sheets ≡ front ++ (sheetPart c ++ tail) → roomBy c ≤ room → callAt (oneOf start c ++ q) sheets room 0 ≡ c
+unfolding callAt oneOf tenOf roomBy
 one-back (stepCall t) start front tail sheets q room g e s r = refl
 one-back transportCall start front tail sheets q room g e s r = refl
 one-back (boundariesCall es) start front tail sheets q room g e s r = boundaries-back es q sheets room (g .0) (g .1)
@@ -186,23 +172,24 @@ one-back (openCall sheet) start front tail sheets q room g e s r = ap openCall (
 
 -- ---- the list read back
 
-calls-back : (cs : List Call) (start : ℕ) (front sheets : List ℕ) (room : ℕ) → Each Given cs → length front ≡ start
-    → sheets ≡ front ++ sheetsOf cs → roomOf cs ≤ room → callsFrom (wordsOf start cs) sheets room 0 (length cs) ≡ cs
-unfolding callsFrom wordsOf sheetsOf roomOf Each
-calls-back [] start front sheets room g e s r = refl
-calls-back (c ∷ cs) start front sheets room g e s r =
-    let at = start + length (sheetOf c) in
-    let n : length (front ++ sheetOf c) ≡ at = length-append front (sheetOf c) ∙ omega arith in
-    ap₂ (λ (x : Call) (xs : List Call). x ∷ xs)
-    (one-back c start front (sheetsOf cs) sheets (wordsOf at cs) room (g .0) e s (omega arith))
-    (calls-past (oneOf start c) (wordsOf at cs) sheets room 0 (length cs) (one-length start c)
-    ∙ calls-back cs at (front ++ sheetOf c) sheets room (g .1) n (rw append-assoc s) (omega arith))
+entries-back : (es : List Entry) (start : ℕ) (front sheets : List ℕ) (room : ℕ) → Each EntryGiven es → length front ≡ start
+    → sheets ≡ front ++ sheetsOf es → roomOf es ≤ room → entriesFrom (wordsOf start es) sheets room 0 (length es) ≡ es
+unfolding entriesFrom wordsOf sheetsOf roomOf Each
+entries-back [] start front sheets room g l s r = refl
+entries-back (e ∷ es) start front sheets room g l s r =
+    let c = e .call in
+    let at = start + length (sheetPart c) in
+    let n : length (front ++ sheetPart c) ≡ at = length-append front (sheetPart c) ∙ omega arith in
+    ap₂ (λ (x : Call) (xs : List Entry). entry x ∷ xs)
+    (one-back c start front (sheetsOf es) sheets (wordsOf at es) room (g .0) l s (omega arith))
+    (entries-past (oneOf start c) (wordsOf at es) sheets room 0 (length es) (one-length start c)
+    ∙ entries-back es at (front ++ sheetPart c) sheets room (g .1) n (rw append-assoc s) (omega arith))
 
-script-back : (cs : List Call) → Each Given cs → script (wordsOf 0 cs) (sheetsOf cs) (roomOf cs) ≡ cs
+script-back : (es : List Entry) → Each EntryGiven es → script (wordsOf 0 es) (sheetsOf es) (roomOf es) ≡ es
 unfolding script
-script-back cs g =
-    let n : length (wordsOf 0 cs) / 13 ≡ length cs = omega (arith, words-length 0 cs) in
-    rw n (calls-back cs 0 [] (sheetsOf cs) (roomOf cs) g refl refl (omega arith))
+script-back es g =
+    let n : length (wordsOf 0 es) / 13 ≡ length es = omega (arith, words-length 0 es) in
+    rw n (entries-back es 0 [] (sheetsOf es) (roomOf es) g refl refl (omega arith))
 
 -- ---- and it fits
 
@@ -246,8 +233,8 @@ ten-fit (e ∷ f ∷ []) n s =
     )
 ten-fit (e ∷ f ∷ g ∷ es) n s = absurd (omega arith)
 
-one-fit : (start : ℕ) (c : Call) → Given c → Word (start + length (sheetOf c)) → Each Word (oneOf start c)
-unfolding Each oneOf sheetOf
+one-fit : (start : ℕ) (c : Call) → Given c → Word (start + length (sheetPart c)) → Each Word (oneOf start c)
+unfolding Each oneOf sheetPart
 one-fit start (stepCall t) g l = (omega arith, (g, (omega arith, zeros-fit)))
 one-fit start transportCall g l = (omega arith, (omega arith, (omega arith, zeros-fit)))
 one-fit start (boundariesCall es) g l = (omega arith, (omega arith, (omega arith, ten-fit es (g .0) (g .1))))
@@ -255,16 +242,16 @@ one-fit start greatestCall g l = (omega arith, (omega arith, (omega arith, zeros
 one-fit start (writeCall room) g l = (omega arith, (g, (omega arith, zeros-fit)))
 one-fit start (openCall sheet) g l = (omega arith, (omega arith, (l, zeros-fit)))
 
-words-fit : (start : ℕ) (cs : List Call) → Each Given cs → Word (start + sheetsSize cs) → Each Word (wordsOf start cs)
-unfolding Each wordsOf
+words-fit : (start : ℕ) (es : List Entry) → Each EntryGiven es → Word (start + sheetsSize es) → Each Word (wordsOf start es)
+unfolding Each wordsOf sheetsSize
 words-fit start [] g l = tt
-words-fit start (c ∷ cs) g l =
-    let at = start + length (sheetOf c) in
-    let e = size-one c cs in
-    each-append Word (oneOf start c) (wordsOf at cs) (one-fit start c (g .0) (omega arith)) (words-fit at cs (g .1) (omega arith))
+words-fit start (e ∷ es) g l =
+    let c = e .call in
+    let at = start + length (sheetPart c) in
+    each-append Word (oneOf start c) (wordsOf at es) (one-fit start c (g .0) (omega arith)) (words-fit at es (g .1) (omega arith))
 
-sheet-fit : (c : Call) → Given c → Each Byte (sheetOf c)
-unfolding Each sheetOf
+sheet-fit : (c : Call) → Given c → Each Byte (sheetPart c)
+unfolding Each
 sheet-fit (stepCall t) g = tt
 sheet-fit transportCall g = tt
 sheet-fit (boundariesCall es) g = tt
@@ -272,10 +259,10 @@ sheet-fit greatestCall g = tt
 sheet-fit (writeCall room) g = tt
 sheet-fit (openCall sheet) g = g
 
-sheets-fit : (cs : List Call) → Each Given cs → Each Byte (sheetsOf cs)
+sheets-fit : (es : List Entry) → Each EntryGiven es → Each Byte (sheetsOf es)
 unfolding Each sheetsOf
 sheets-fit [] g = tt
-sheets-fit (c ∷ cs) g = each-append Byte (sheetOf c) (sheetsOf cs) (sheet-fit c (g .0)) (sheets-fit cs (g .1))
+sheets-fit (e ∷ es) g = each-append Byte (sheetPart (e .call)) (sheetsOf es) (sheet-fit (e .call) (g .0)) (sheets-fit es (g .1))
 
 room-by-fits : (c : Call) → Given c → Word (roomBy c)
 unfolding roomBy
@@ -286,25 +273,25 @@ room-by-fits greatestCall g = omega arith
 room-by-fits (writeCall room) g = g
 room-by-fits (openCall sheet) g = omega arith
 
-room-fits : (cs : List Call) → Each Given cs → Word (roomOf cs)
+room-fits : (es : List Entry) → Each EntryGiven es → Word (roomOf es)
 unfolding Each roomOf
 room-fits [] g = omega arith
-room-fits (c ∷ cs) g = omega (arith, room-by-fits c (g .0), room-fits cs (g .1))
+room-fits (e ∷ es) g = omega (arith, room-by-fits (e .call) (g .0), room-fits es (g .1))
 
-sheets-length : (cs : List Call) → length (sheetsOf cs) ≡ sheetsSize cs
+sheets-length : (es : List Entry) → length (sheetsOf es) ≡ sheetsSize es
 unfolding sheetsOf sheetsSize
 sheets-length [] = refl
-sheets-length (c ∷ cs) = length-append (sheetOf c) (sheetsOf cs) ∙ omega (arith, size-one c cs, sheets-length cs)
+sheets-length (e ∷ es) = length-append (sheetPart (e .call)) (sheetsOf es) ∙ omega (arith, sheets-length es)
 
 pub every-list : EveryList
-every-list cs g l = record {
-  words = wordsOf 0 cs;
-  sheets = sheetsOf cs;
-  room = roomOf cs;
-  words-fit = words-fit 0 cs g (omega arith);
-  sheets-fit = sheets-fit cs g;
-  room-fits = room-fits cs g;
-  words-long = words-length 0 cs;
-  sheets-long = sheets-length cs;
-  read-back = script-back cs g;
+every-list es g l = record {
+  words = wordsOf 0 es;
+  sheets = sheetsOf es;
+  room = roomOf es;
+  words-fit = words-fit 0 es g (omega arith);
+  sheets-fit = sheets-fit es g;
+  room-fits = room-fits es g;
+  words-long = words-length 0 es;
+  sheets-long = sheets-length es;
+  read-back = script-back es g;
 }

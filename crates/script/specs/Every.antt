@@ -1,13 +1,13 @@
--- Every list of calls, of any length, stands in memory that is large enough for it.
+-- Every list of calls, of any length, stands in memory that is large enough for it. Not the paper's: a reader of the model may skip this file.
 use mathlib.Core.Path.{_≡_}
 use mathlib.Core.List.{List, [], _∷_}
 use Prim.Native.Nat.{ℕ, _+_, _*_, _<_}
 use lib.IntN.{ℤ, pos, negsuc}
 use lib.ListN.{length}
 use Rattle.reach.specs.declared.boundary.Boundary.{Boundary}
-use Rattle.tally.specs.Call.{Call, stepCall, transportCall, boundariesCall, greatestCall, writeCall, openCall}
+use Rattle.tally.specs.Call.{Call, Entry, stepCall, transportCall, boundariesCall, greatestCall, writeCall, openCall}
 use Rattle.tally.specs.Holds.{Each}
-use Rattle.script.specs.Script.{callWords, script}
+use Rattle.script.specs.Script.{entryWords, script}
 
 -- numbers of a word, a half word and a byte
 abbrev pub Word : ℕ → Type 0
@@ -40,28 +40,34 @@ Given greatestCall = Unit {0}
 Given (writeCall room) = Word room
 Given (openCall sheet) = Each Byte sheet
 
+abbrev pub EntryGiven : Entry → Type 0
+EntryGiven e = Given (e .call)
+
 -- the bytes of all sheets of a list
-unfoldable pub sheetsSize : List Call → ℕ
+abbrev pub sheetPart : Call → List ℕ
+sheetPart (stepCall t) = []
+sheetPart transportCall = []
+sheetPart (boundariesCall es) = []
+sheetPart greatestCall = []
+sheetPart (writeCall room) = []
+sheetPart (openCall sheet) = sheet
+
+unfoldable pub sheetsSize : List Entry → ℕ
 sheetsSize [] = 0
-sheetsSize (stepCall t ∷ cs) = sheetsSize cs
-sheetsSize (transportCall ∷ cs) = sheetsSize cs
-sheetsSize (boundariesCall es ∷ cs) = sheetsSize cs
-sheetsSize (greatestCall ∷ cs) = sheetsSize cs
-sheetsSize (writeCall room ∷ cs) = sheetsSize cs
-sheetsSize (openCall sheet ∷ cs) = length sheet + sheetsSize cs
+sheetsSize (e ∷ es) = length (sheetPart (e .call)) + sheetsSize es
 
 -- memory that holds the list: its words and bytes, no more of them than the list needs
-pub record Encoded (cs : List Call) : Type 0 where
+pub record Encoded (es : List Entry) : Type 0 where
   pub words : List ℕ
   pub sheets : List ℕ
   pub room : ℕ
   pub words-fit : Each Word words
   pub sheets-fit : Each Byte sheets
   pub room-fits : Word room
-  pub words-long : length words ≡ callWords * length cs
-  pub sheets-long : length sheets ≡ sheetsSize cs
-  pub read-back : script words sheets room ≡ cs
+  pub words-long : length words ≡ entryWords * length es
+  pub sheets-long : length sheets ≡ sheetsSize es
+  pub read-back : script words sheets room ≡ es
 
 -- the one limit is that the places of the sheets' bytes are words
 abbrev pub EveryList : Type 0
-EveryList = (cs : List Call) → Each Given cs → Word (sheetsSize cs) → Encoded cs
+EveryList = (es : List Entry) → Each EntryGiven es → Word (sheetsSize es) → Encoded es

@@ -1,15 +1,16 @@
--- How a list of calls with their free arguments stands in lent memory: thirteen words a call, and the bytes of all sheets.
+-- Not the paper's: how a list of calls with their free arguments stands in lent memory, thirteen words an entry, and the bytes of all sheets. A
+-- reader of the model may skip this file.
 use mathlib.Core.Bool.{cond}
 use mathlib.Core.List.{List, [], _∷_}
 use Prim.Native.Nat.{ℕ, zero, suc, _+_, _-_, _*_, _/_, _%_, min}
 use lib.Dec.{eqb}
 use lib.ListN.{length, getD, take, drop}
 use Rattle.reach.specs.declared.boundary.Boundary.{Boundary}
-use Rattle.sheet.specs.Bytes.{twos}
-use Rattle.tally.specs.Call.{Call, stepCall, transportCall, boundariesCall, greatestCall, writeCall, openCall}
+use Rattle.encoding.specs.FromBytes.{twos}
+use Rattle.tally.specs.Call.{Call, Entry, stepCall, transportCall, boundariesCall, greatestCall, writeCall, openCall}
 
-abbrev pub callWords : ℕ
-callWords = 13
+abbrev pub entryWords : ℕ
+entryWords = 13
 
 -- five words from `at` on: kind, the reserved field, depth, concentration, discharge in two's complement
 unfoldable pub boundaryFrom : (words : List ℕ) (at : ℕ) → Boundary
@@ -25,7 +26,7 @@ boundaryFrom ws at = record {
 unfoldable pub part : (sheets : List ℕ) (a b : ℕ) → List ℕ
 part s a b = take (min b (length s) - min a (length s)) (drop (min a (length s)) s)
 
--- by the first word of a call: 0 a step, 1 a settling, 2 an end setting, 3 a greatest-step call, 4 a write, any other an opening
+-- by the first word of a call: 0 a step, 1 a transport, 2 a setting of boundaries, 3 a greatest-step call, 4 a write, any other an opening
 abbrev pub callOf : (word a b : ℕ) → List Boundary → (sheets : List ℕ) (room : ℕ) → Call
 callOf w a b es sheets room =
     cond (eqb w 0) (stepCall a)
@@ -36,16 +37,20 @@ callOf w a b es sheets room =
     (openCall (part sheets a b))))))
 
 -- the call in the words from `at` on; t, the room of a write, or the place of a sheet is in the two words behind the first, the pair of
--- ends in the ten after them; there are `room` bytes of output
+-- boundaries in the ten after them; there are `room` bytes of output
 unfoldable pub callAt : (words sheets : List ℕ) (room at : ℕ) → Call
 callAt ws sheets room at =
     callOf (getD ws at 0) (getD ws (at + 1) 0) (getD ws (at + 2) 0) (boundaryFrom ws (at + 3) ∷ boundaryFrom ws (at + 8) ∷ []) sheets room
 
--- k calls from call j on
-unfoldable pub callsFrom : (words sheets : List ℕ) (room j k : ℕ) → List Call
-callsFrom ws sheets room j zero = []
-callsFrom ws sheets room j (suc k) = callAt ws sheets room (callWords * j) ∷ callsFrom ws sheets room (suc j) k
+-- an entry: what is free at every call takes no word
+abbrev pub entryAt : (words sheets : List ℕ) (room at : ℕ) → Entry
+entryAt ws sheets room at = record { free = record {}; call = callAt ws sheets room at }
+
+-- k entries from entry j on
+unfoldable pub entriesFrom : (words sheets : List ℕ) (room j k : ℕ) → List Entry
+entriesFrom ws sheets room j zero = []
+entriesFrom ws sheets room j (suc k) = entryAt ws sheets room (entryWords * j) ∷ entriesFrom ws sheets room (suc j) k
 
 -- as many as there are words for
-unfoldable pub script : (words sheets : List ℕ) (room : ℕ) → List Call
-script ws sheets room = callsFrom ws sheets room 0 (length ws / callWords)
+unfoldable pub script : (words sheets : List ℕ) (room : ℕ) → List Entry
+script ws sheets room = entriesFrom ws sheets room 0 (length ws / entryWords)

@@ -4,8 +4,8 @@ ghost use mathlib.Core.List.{[], _∷_};
 ghost use Prim.Native.Nat.{_+_, _≤_, min, max};
 ghost use lib.ListN.{length};
 ghost use Rattle.script.specs.Script.{boundaryFrom};
+use encoding::reading::twos_in;
 use reach::boundary::Boundary;
-use sheet::bytes::twos_in;
 
 pub fn least(a: usize, b: usize) -> usize
     ensures { λ r. ⌜ r ≡ min a b ⌝ }
@@ -32,7 +32,7 @@ fn boundary_from(words: &[u64], at: usize) -> Boundary
     }
 }
 
-// The pair of ends in the words of the call at `at`
+// The pair of boundaries in the words of the call at `at`
 pub fn boundaries_from(words: &[u64], at: usize) -> [Boundary; 2]
     requires { ⌜ at + 13 ≤ length (now words) ⌝ }
     ensures { λ r. ⌜ r ≡ (boundaryFrom (now (words .entry)) (at + 3) ∷ boundaryFrom (now (words .entry)) (at + 8) ∷ []) ⌝ }

@@ -1,4 +1,3 @@
-pub mod BytesLaws
 pub mod HeaderLaws
 pub mod OpeningLaws
 mod Says

@@ -19,8 +19,8 @@ use Rattle.reach.specs.declared.boundary.Boundary.{Boundary}
 use Rattle.reach.specs.declared.refusal.Check.{Check}
 use Rattle.reach.specs.declared.refusal.Check.the-variants.{Pass, Refused}
 use Rattle.reach.proofs.GroundsLaws.{stood, numbered, refused-number}
-use Rattle.reach.proofs.Sound.{Sound, stands, CarriedSound, boundary-sound, cells-sound}
-use Rattle.sheet.specs.Bytes.{numberAt, twos, columnAt}
+use Rattle.reach.proofs.Sound.{Sound, stands, CarriedSound, none-carried, boundary-sound, cells-sound}
+use Rattle.encoding.specs.FromBytes.{numberAt, twos, columnAt}
 use Rattle.sheet.specs.Header.{headerSize, sheetSize, countOf, bedsAt, depthsAt, dischargesAt, massesAt, editionFits, sizeFits, Span, inside, apartFrom, columnsClear, spansOf}
 use Rattle.sheet.specs.Ranges.{LayoutOf, Within, cellAt}
 use Rattle.sheet.specs.Opening.{emptyLedger, sheetRecord, lent, lentFit, openGrounds, opening, unopenedBy, OpenCameTo}
@@ -157,8 +157,7 @@ module _ (s : List ℕ) (l : Reach) where
       rw (o, f) (record {
         refusal-is = refl;
         length-is = ap (λ (x : Reach). x .cellLength) (sym k);
-        boundaries-are = ap (λ (x : Reach). x .boundaries) (sym k);
-        ledger-is = ap (λ (x : Reach). x .ledger) (sym k);
+        held-is = ap (λ (x : Reach). x .held) (sym k);
         bed-is = refl;
         depth-is = refl;
         discharge-is = refl;
@@ -180,7 +179,7 @@ module _ (s : List ℕ) (z h q m b c : ℕ) (e : firstRefusal (openGrounds s z h
   still : (d k n : ℕ) → k < n → CarriedSound d d (getD (replicate (n + 1) (pos 0)) k (pos 0)) (getD (replicate (n + 1) (pos 0)) (k + 1) (pos 0))
   still d k n l =
       rw (getD-replicate (n + 1) k (pos 0) (pos 0) (omega arith), getD-replicate (n + 1) (k + 1) (pos 0) (pos 0) (omega arith))
-      (record { left = omega arith; right = omega arith; balance = omega arith; covered = omega arith })
+      (none-carried d)
 
   pub opened-sound : Sound (sheetRecord s)
   unfolding sheetRecord columnAt cellLengthFits boundariesFit
@@ -215,8 +214,8 @@ opened-stands s l gs e g =
     let p = opened-passes s l e in
     rw (accepted s l p) (stands (sheetRecord s) gs (opened-sound s _ _ _ _ _ _ p) g)
 
--- the record that an opening left in the columns, with X, ends and ledger of its answer
+-- the record that an opening left in the columns, with X, boundaries and ledger of its answer
 pub left-by-opening : {o : Outcome} {r : OpenAnswer} {z : List ℤ} {h : List ℕ} {q : List ℤ} {m b : List ℕ} {c : List ℤ} → OpenCameTo o r z h q m b c
-    → reachOf z h q m b c (r .«cell_length») (r .boundaries) (r .ledger) ≡ o .reach
+    → reachOf z h q m b c (r .«cell_length») (r .held) ≡ o .reach
 left-by-opening {o} k =
-    rw (k .bed-is, k .depth-is, k .discharge-is, k .mass-is, k .base-is, k .carried-is, k .length-is, k .boundaries-are, k .ledger-is) refl
+    rw (k .bed-is, k .depth-is, k .discharge-is, k .mass-is, k .base-is, k .carried-is, k .length-is, k .held-is) refl

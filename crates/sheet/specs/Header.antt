@@ -7,7 +7,7 @@ use lib.ListN.{length}
 use Rattle.numbers.specs.Index.{allOf}
 use Rattle.reach.specs.Limits.{cellsMost}
 use Rattle.reach.specs.declared.boundary.Boundary.{Boundary}
-use Rattle.sheet.specs.Bytes.{numberAt, twos}
+use Rattle.encoding.specs.FromBytes.{numberAt, twos}
 
 -- bytes of the header, and of the sheet of n cells
 abbrev pub headerSize : ℕ

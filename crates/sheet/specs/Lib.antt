@@ -1,4 +1,3 @@
-pub mod Bytes
 pub mod Header
 pub mod Ranges
 pub mod Opening

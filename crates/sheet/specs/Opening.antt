@@ -7,24 +7,29 @@ use lib.Dec.{eqb}
 use lib.IntN.{ℤ, pos}
 use lib.ListN.{length, replicate}
 use Rattle.numbers.specs.Index.{allOf}
-use Rattle.reach.specs.Reach.{Reach, reachOf, noBoundary}
+use Rattle.reach.specs.Reach.{Reach, reachOf, noBoundary, heldWith}
 use Rattle.reach.specs.Grounds.{Ground, ground, firstRefusal, cellLengthFits, boundariesFit, cellsFit}
 use Rattle.reach.specs.Outcome.{Outcome, outcome}
 use Rattle.reach.specs.declared.boundary.Boundary.{Boundary}
+use Rattle.reach.specs.declared.held.Held.{Held}
 use Rattle.reach.specs.declared.ledger.Totals.{Totals}
 use Rattle.reach.specs.declared.ledger.Ledger.{Ledger}
-use Rattle.sheet.specs.Bytes.{twos, columnAt}
+use Rattle.encoding.specs.FromBytes.{twos, columnAt}
 use Rattle.sheet.specs.Header.{countOf, cellLengthOf, bedsAt, depthsAt, dischargesAt, massesAt, boundariesOf, editionFits, sizeFits, spansOf, columnsClear}
 use Rattle.sheet.specs.declared.opening.OpenAnswer.{OpenAnswer}
 
--- an empty book
+-- an empty ledger (the paper's 'book')
 abbrev pub emptyTotals : Totals
 emptyTotals = record { «water_in» = 0; «water_out» = 0; «mass_in» = 0; «mass_out» = 0 }
 
 abbrev pub emptyLedger : Ledger
 emptyLedger = record { left = emptyTotals; right = emptyTotals }
 
--- the record of a sheet: b = h, c = 0, an empty book
+-- the boundaries of a sheet, and an empty ledger
+abbrev pub heldOf : List ℕ → Held
+heldOf s = heldWith (boundariesOf s) emptyLedger
+
+-- the record of a sheet: b = h, c = 0, an empty ledger
 unfoldable pub sheetRecord : List ℕ → Reach
 sheetRecord s = record {
   bed = columnAt (twos 4) 4 s (bedsAt s) (countOf s);
@@ -34,13 +39,16 @@ sheetRecord s = record {
   base = columnAt (λ v. v) 4 s (depthsAt s) (countOf s);
   carried = replicate (countOf s + 1) (pos 0);
   cellLength = cellLengthOf s;
-  boundaries = boundariesOf s;
-  ledger = emptyLedger;
+  held = heldOf s;
 }
 
--- columns as they are lent to an opening, which is given no X, no ends and no book: all of these are 0
+-- what an opening holds before it: it is given no boundaries and no ledger, so all of them are 0
+abbrev pub noneHeld : Held
+noneHeld = heldWith (noBoundary ∷ noBoundary ∷ []) emptyLedger
+
+-- columns as they are lent to an opening, which is given no X either
 abbrev pub lent : List ℤ → List ℕ → List ℤ → List ℕ → List ℕ → List ℤ → Reach
-lent z h q m b c = reachOf z h q m b c 0 (noBoundary ∷ noBoundary ∷ []) emptyLedger
+lent z h q m b c = reachOf z h q m b c 0 noneHeld
 
 -- 4, at opening: the bed column's length is n, and the other columns' lengths fit it
 unfoldable pub lentFit : (n bed depth discharge mass base carried : ℕ) → Bool
@@ -68,14 +76,13 @@ opening s l =
 
 -- the answer of a refused opening: its number, and 0 in the other fields
 abbrev pub unopenedBy : ℕ → OpenAnswer
-unopenedBy n = record { refusal = n; «cell_length» = 0; boundaries = noBoundary ∷ noBoundary ∷ []; ledger = emptyLedger }
+unopenedBy n = record { refusal = n; «cell_length» = 0; held = noneHeld }
 
 -- an opening came out as o says: every field of its answer, and every column
 pub record OpenCameTo (o : Outcome) (r : OpenAnswer) (bed : List ℤ) (depth : List ℕ) (discharge : List ℤ) (mass base : List ℕ) (carried : List ℤ) : Type 0 where
   pub refusal-is : r .refusal ≡ o .refusal
   pub length-is : r .«cell_length» ≡ o .reach .cellLength
-  pub boundaries-are : r .boundaries ≡ o .reach .boundaries
-  pub ledger-is : r .ledger ≡ o .reach .ledger
+  pub held-is : r .held ≡ o .reach .held
   pub bed-is : bed ≡ o .reach .bed
   pub depth-is : depth ≡ o .reach .depth
   pub discharge-is : discharge ≡ o .reach .discharge

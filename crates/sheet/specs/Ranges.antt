@@ -1,11 +1,11 @@
--- What the functions of this crate require and give.
+-- Not the paper's: what the inner functions require and give. A reader of the model may skip this file.
 use mathlib.Core.Path.{_≡_}
 use mathlib.Core.Bool.{Bool}
 use mathlib.Core.List.{List}
 use Prim.Native.Nat.{ℕ, _+_, _*_, _≤_, _<_}
 use lib.ListN.{length}
 use Rattle.reach.specs.Grounds.{cellFits}
-use Rattle.sheet.specs.Bytes.{numberAt, twos}
+use Rattle.encoding.specs.FromBytes.{numberAt, twos}
 use Rattle.sheet.specs.Header.{bedsAt, depthsAt, dischargesAt, massesAt}
 use Rattle.sheet.specs.declared.header.Layout.{Layout}
 

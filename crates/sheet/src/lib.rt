@@ -1,4 +1,3 @@
-// The sheet (document 01, 'The sheet'): numbers and columns in bytes, the header, and opening.
-pub mod bytes;
+// The sheet (document 01, 'The sheet'): the header, and opening.
 pub mod header;
 pub mod opening;

@@ -5,14 +5,11 @@ ghost use lib.IntN.{pos};
 ghost use lib.ListN.{length, replicate};
 ghost use Rattle.numbers.specs.Index.{allBelow};
 ghost use Rattle.reach.specs.Grounds.{firstRefusal, numberOf, passOr};
-ghost use Rattle.sheet.specs.Bytes.{twos, columnAt};
-ghost use Rattle.reach.specs.Reach.{noBoundary};
+ghost use Rattle.encoding.specs.FromBytes.{twos, columnAt};
+ghost use Rattle.reach.specs.Reach.{came, noBoundary};
+ghost use Rattle.sheet.specs.Header.{headerSize};
 ghost use Rattle.sheet.specs.Ranges.{Within, cellAt};
-ghost use Rattle.sheet.specs.Opening.{lent, lentFit, openGrounds, opening, emptyLedger, unopenedBy, OpenCameTo};
-use super::bytes::read_column;
-use super::bytes::read_number;
-use super::bytes::read_signed;
-use super::bytes::read_signed_column;
+ghost use Rattle.sheet.specs.Opening.{lentFit, openGrounds, opening, emptyLedger, noneHeld, heldOf, unopenedBy, OpenCameTo};
 use super::header::HALF_4;
 use super::header::HALF_8;
 use super::header::Layout;
@@ -23,12 +20,17 @@ use super::header::check_size;
 use super::header::count_of;
 use super::header::layout_of;
 use super::header::read_boundaries;
+use encoding::reading::read_column;
+use encoding::reading::read_number;
+use encoding::reading::read_signed;
+use encoding::reading::read_signed_column;
 use numbers::columns::clear_column;
 use numbers::columns::copy_column;
 use reach::boundary::Boundary;
 use reach::boundary::check_boundaries;
 use reach::cells::cell_fits;
 use reach::cells::check_cell_length;
+use reach::held::Held;
 use reach::ledger::Ledger;
 use reach::ledger::Totals;
 use reach::refusal::Check;
@@ -39,8 +41,7 @@ use reach::refusal::Check;
 pub struct OpenAnswer {
     pub refusal: u32,
     pub cell_length: u64,
-    pub boundaries: [Boundary; 2],
-    pub ledger: Ledger,
+    pub held: Held,
 }
 
 // Ground 4, of the lengths of the lent columns
@@ -196,26 +197,42 @@ fn empty_ledger() -> Ledger
     }
 }
 
-fn unopened(k: Check) -> OpenAnswer
-    ensures { λ r. ⌜ r ≡ unopenedBy (numberOf k) ⌝ }
+// An opening is given no boundaries and no ledger
+fn none_held() -> Held
+    ensures { λ r. ⌜ r ≡ noneHeld ⌝ }
 {
     let none = no_boundary();
     let boundaries = [none, none];
     let ledger = empty_ledger();
+    Held { boundaries, ledger }
+}
+
+fn unopened(k: Check) -> OpenAnswer
+    ensures { λ r. ⌜ r ≡ unopenedBy (numberOf k) ⌝ }
+{
+    let held = none_held();
     let Check::Refused(n) = k else {
         return OpenAnswer {
             refusal: 0,
             cell_length: 0,
-            boundaries,
-            ledger,
+            held,
         };
     };
     OpenAnswer {
         refusal: n,
         cell_length: 0,
-        boundaries,
-        ledger,
+        held,
     }
+}
+
+// The sheet's boundaries and an empty ledger
+fn held_of(s: &[u8]) -> Held
+    requires { ⌜ headerSize ≤ length (now s) ⌝ }
+    ensures { λ r. ⌜ r ≡ heldOf (now (s .entry)) ⌝ }
+{
+    let boundaries = read_boundaries(s);
+    let ledger = empty_ledger();
+    Held { boundaries, ledger }
 }
 
 // Opens a sheet into lent columns.
@@ -228,7 +245,7 @@ pub fn open_sheet(
     base: &mut [u64],
     carried: &mut [i64],
 ) -> OpenAnswer
-    ensures { λ r. ⌜ OpenCameTo (opening (now (s .entry)) (lent (now (bed .entry)) (now (depth .entry)) (now (discharge .entry)) (now (mass .entry)) (now (base .entry)) (now (carried .entry)))) r (now (bed .exit)) (now (depth .exit)) (now (discharge .exit)) (now (mass .exit)) (now (base .exit)) (now (carried .exit)) ⌝ }
+    ensures { λ r. ⌜ OpenCameTo (opening (now (s .entry)) (came bed depth discharge mass base carried 0 noneHeld)) r (now (bed .exit)) (now (depth .exit)) (now (discharge .exit)) (now (mass .exit)) (now (base .exit)) (now (carried .exit)) ⌝ }
 {
     let checked = check_opening(
         s,
@@ -246,7 +263,6 @@ pub fn open_sheet(
     OpenAnswer {
         refusal: 0,
         cell_length: cell_length_of(s),
-        boundaries: read_boundaries(s),
-        ledger: empty_ledger(),
+        held: held_of(s),
     }
 }

@@ -1,4 +1,2 @@
-pub mod GreatestLaws
-pub mod StepLaws
 pub mod StepCallLaws
 mod Says

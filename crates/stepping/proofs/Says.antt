@@ -13,19 +13,15 @@ use prog.Memory.{Memory}
 use prog.Routine.{Routine}
 use prog.Wp.{Heap}
 use Rattle.reach.specs.Reach.{reachOf}
-use Rattle.reach.specs.declared.boundary.Boundary.{Boundary}
-use Rattle.reach.specs.declared.ledger.Ledger.{Ledger}
-use Rattle.stepping.specs.GreatestStep.{greatest}
-use Rattle.stepping.specs.Step.{StepCameTo}
-use Rattle.stepping.specs.declared.GreatestAnswer.{GreatestAnswer}
+use Rattle.reach.specs.declared.held.Held.{Held}
+use Rattle.stepping.specs.StepCall.{StepCameTo}
 use Rattle.stepping.specs.declared.step.StepAnswer.{StepAnswer}
 use Rattle.stepping.proofs.step.step.{ensures-1 as step-ensures}
-use Rattle.stepping.proofs.greatest_step.{ensures-1 as greatest-ensures}
 
 pub step-says : {M : Type 1} (𝓤 : URA M) (H : Heap 𝓤) (κs : Lfts 6) (A : Atoms 𝓤) (mem : Memory → SProp 𝓤) (run : Routine → Fun 𝓤)
-    (z : RefT (List ℤ)) (h : RefT (List ℕ)) (q : RefT (List ℤ)) (m : RefT (List ℕ)) (b : RefT (List ℕ)) (c : RefT (List ℤ)) (x : ℕ) (boundaries : List Boundary) (k : Ledger) (t : ℕ)
+    (z : RefT (List ℤ)) (h : RefT (List ℕ)) (q : RefT (List ℤ)) (m : RefT (List ℕ)) (b : RefT (List ℕ)) (c : RefT (List ℤ)) (x : ℕ) (k : Held) (t : ℕ)
     (h' : List ℕ) (q' : List ℤ) (m' : List ℕ) (b' : List ℕ) (c' : List ℤ) (r : StepAnswer) →
-    step-ensures 𝓤 H κs A mem run z h q m b c x boundaries k t
+    step-ensures 𝓤 H κs A mem run z h q m b c x k t
     (record { entry = z; exit = z })
     (record { entry = h; exit = at-last h h' })
     (record { entry = q; exit = at-last q q' })
@@ -33,26 +29,8 @@ pub step-says : {M : Type 1} (𝓤 : URA M) (H : Heap 𝓤) (κs : Lfts 6) (A : 
     (record { entry = b; exit = at-last b b' })
     (record { entry = c; exit = at-last c c' })
     (record { entry = x; exit = x })
-    (record { entry = boundaries; exit = boundaries })
     (record { entry = k; exit = k })
     (record { entry = t; exit = t })
     r
-    ≡ fact 𝓤 (StepCameTo (reachOf (now z) (now h) (now q) (now m) (now b) (now c) x boundaries k) t r h' q' m' b' c')
-step-says 𝓤 H κs A mem run z h q m b c x boundaries k t h' q' m' b' c' r = refl
-
-pub greatest-says : {M : Type 1} (𝓤 : URA M) (H : Heap 𝓤) (κs : Lfts 6) (A : Atoms 𝓤) (mem : Memory → SProp 𝓤) (run : Routine → Fun 𝓤)
-    (z : RefT (List ℤ)) (h : RefT (List ℕ)) (q : RefT (List ℤ)) (m : RefT (List ℕ)) (b : RefT (List ℕ)) (c : RefT (List ℤ)) (x : ℕ) (boundaries : List Boundary) (k : Ledger)
-    (r : GreatestAnswer) →
-    greatest-ensures 𝓤 H κs A mem run z h q m b c x boundaries k
-    (record { entry = z; exit = z })
-    (record { entry = h; exit = h })
-    (record { entry = q; exit = q })
-    (record { entry = m; exit = m })
-    (record { entry = b; exit = b })
-    (record { entry = c; exit = c })
-    (record { entry = x; exit = x })
-    (record { entry = boundaries; exit = boundaries })
-    (record { entry = k; exit = k })
-    r
-    ≡ fact 𝓤 (r ≡ greatest (reachOf (now z) (now h) (now q) (now m) (now b) (now c) x boundaries k))
-greatest-says 𝓤 H κs A mem run z h q m b c x boundaries k r = refl
+    ≡ fact 𝓤 (StepCameTo (reachOf (now z) (now h) (now q) (now m) (now b) (now c) x k) t r h' q' m' b' c')
+step-says 𝓤 H κs A mem run z h q m b c x k t h' q' m' b' c' r = refl

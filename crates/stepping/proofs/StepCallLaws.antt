@@ -22,26 +22,31 @@ use Rattle.flux.specs.Ranges.{Mesh}
 use Rattle.flux.specs.Velocity.{velocity}
 use Rattle.cfl.specs.Cfl.{signalSpeed, speedAt, meetsCfl}
 use Rattle.reach.specs.Limits.{wall, openBoundary, fed, carriedMost}
-use Rattle.reach.specs.Reach.{Reach, cells, depthAt, dischargeAt, baseAt, carriedAt, leftBoundary, rightBoundary}
+use Rattle.reach.specs.Reach.{Reach, reachOf, cells, depthAt, dischargeAt, baseAt, carriedAt, leftBoundary, rightBoundary, withLedger}
 use Rattle.reach.specs.Grounds.{firstRefusal, recordGrounds, boundaryFits, boundariesFit, kindFits, ledgerFits, passOr}
 use Rattle.reach.specs.Outcome.{Outcome, outcome}
 use Rattle.reach.specs.declared.boundary.Boundary.{Boundary}
+use Rattle.reach.specs.declared.boundary.BoundaryPlace.{BoundaryPlace}
+use Rattle.reach.specs.declared.boundary.BoundaryPlace.the-variants.{Left, Right}
 use Rattle.reach.specs.declared.ledger.Ledger.{Ledger}
 use Rattle.reach.specs.declared.refusal.Check.{Check}
 use Rattle.reach.specs.declared.refusal.Check.the-variants.{Pass, Refused}
 use Rattle.reach.proofs.GroundsLaws.{go-on, stop-at, last-one, further, no-further, numbered, refused-number}
 use Rattle.reach.proofs.Sound.{Sound}
-use Rattle.mass.specs.Transport.{massColumns, movedMass}
-use Rattle.mass.specs.Ranges.{Ready}
+use Rattle.mass.specs.Transport.{massColumns}
+use Rattle.mass.specs.Ranges.{Ready, movedMass}
 use Rattle.transport.specs.Calls.{massColumnsOf, withMass, ledgerWith, afterTransport}
 use Rattle.transport.specs.Ranges.{Small}
 use Rattle.transport.proofs.CallsLaws.{ready, small, ledger-is, carried-zero}
-use Rattle.water.specs.Sides.{cellSide, boundarySide, leftSide, rightSide}
+use Rattle.water.specs.Sides.{sideSpeed, cellSide, boundarySide, leftSide, rightSide}
 use Rattle.water.specs.Water.{netAt, newDepth}
 use Rattle.water.specs.Ranges.{fluxMost, flowOf, FlowFits, sideMeets, sidesMeet, Swept}
-use Rattle.water.proofs.WaterLaws.{right-side-cell, right-side-end, boundary-fed, net-small}
-use Rattle.stepping.specs.GreatestStep.{boundarySpeed, placeSpeed}
-use Rattle.stepping.specs.Step.{summed, keepsSums, transportedFirst, withBoundaryWater, stepLedger, afterStep, timeFits, depthsFit, stepGrounds, step, transports, stoppedBy, StepCameTo}
+use Rattle.water.proofs.WaterLaws.{right-side-cell, right-side-end, net-small}
+use Rattle.timestep.specs.GreatestStep.{boundarySpeed, leftSpeed, rightSpeed, placeSpeed}
+use Rattle.stepping.specs.declared.step.StepAnswer.{StepAnswer}
+use Rattle.update.proofs.StepLaws.{by-step}
+use Rattle.update.specs.Step.{summed, keepsSums, transportedFirst, withBoundaryWater, stepLedger, afterStep, timeFits, depthsFit, stepGrounds, step, transports}
+use Rattle.stepping.specs.StepCall.{stoppedBy, StepCameTo}
 use Rattle.stepping.specs.Ranges.{Summable, sumsKept, BoundaryMassWhen}
 
 -- ---- what a sound record owes the sweep
@@ -62,7 +67,7 @@ flow-fits s k = record {
 }
 
 -- and so has its water alone
-pub water-fits : (s : Reach) → Sound s → FlowFits (flowOf (s .bed) (s .depth) (s .discharge) (s .cellLength) (s .boundaries))
+pub water-fits : (s : Reach) → Sound s → FlowFits (flowOf (s .bed) (s .depth) (s .discharge) (s .cellLength) (s .held .boundaries))
 water-fits s k = let f = flow-fits s k in
     record { some = f .some; few = f .few; depths = f .depths; discharges = f .discharges; cell = f .cell; left = f .left; right = f .right }
 
@@ -82,24 +87,22 @@ same-truth true b f g = sym (f refl)
 same-truth false true f g = g refl
 same-truth false false f g = refl
 
-module _ (t X : ℕ) (e : Boundary) (c : Side) where
-  -- an end that meets CFL as a side meets it as a place
-  end-counts : sideMeets t X (boundarySide e c) ≡ true → leb (t * boundarySpeed e) (1_000 * X) ≡ true
-  unfolding boundarySpeed sideMeets signalSpeed
-  end-counts m = go (eqb (e .kind) fed) refl
+module _ (t X : ℕ) (p : BoundaryPlace) (e : Boundary) (c : Side) where
+  -- a boundary that meets CFL as a side meets it as a place
+  boundary-counts : sideMeets t X (boundarySide p e c) ≡ true → leb (t * boundarySpeed p e c) (1_000 * X) ≡ true
+  unfolding boundarySpeed sideMeets
+  boundary-counts m = go (eqb (e .kind) fed)
     where
-      go : (f : Bool) → eqb (e .kind) fed ≡ f → leb (t * cond f (signalSpeed (e .depth) (e .discharge)) 0) (1_000 * X) ≡ true
-      go true p =
-          let k = eqb-true (e .kind) fed p in
-          rw (boundary-fed e c (λ w. absurd (omega (arith, k, w))) (λ o. absurd (omega (arith, k, o)))) at m
-      go false p = le-leb (t * 0) (1_000 * X) (omega arith)
+      go : (f : Bool) → leb (t * cond f (sideSpeed (boundarySide p e c)) 0) (1_000 * X) ≡ true
+      go true = m
+      go false = le-leb (t * 0) (1_000 * X) (omega arith)
 
   -- and the other way round, beside a cell that meets it
-  end-meets : boundaryFits e ≡ true → sideMeets t X c ≡ true → leb (t * boundarySpeed e) (1_000 * X) ≡ true → sideMeets t X (boundarySide e c) ≡ true
-  unfolding boundaryFits kindFits boundarySpeed boundarySide mirrored sideMeets signalSpeed
-  end-meets b m p = go (eqb (e .kind) wall) (eqb (e .kind) openBoundary) (eqb (e .kind) fed) _ _ _ (all-of _ b 1) p
+  boundary-meets : boundaryFits e ≡ true → sideMeets t X c ≡ true → leb (t * boundarySpeed p e c) (1_000 * X) ≡ true → sideMeets t X (boundarySide p e c) ≡ true
+  unfolding boundaryFits kindFits boundarySpeed boundarySide mirrored sideMeets sideSpeed
+  boundary-meets b m q = go (eqb (e .kind) wall) (eqb (e .kind) openBoundary) (eqb (e .kind) fed) _ _ _ (all-of _ b 1) q
     where
-      go : (w o f x y z : Bool) → cond w x (cond o y (cond f z false)) ≡ true → leb (t * cond f (signalSpeed (e .depth) (e .discharge)) 0) (1_000 * X) ≡ true
+      go : (w o f x y z : Bool) → cond w x (cond o y (cond f z false)) ≡ true → leb (t * cond f (sideSpeed (cond w (mirrored c) (cond o c (record { bed = c .bed; depth = e .depth; velocity = velocity (e .depth) (e .discharge) })))) 0) (1_000 * X) ≡ true
           → sideMeets t X (cond w (mirrored c) (cond o c (record { bed = c .bed; depth = e .depth; velocity = velocity (e .depth) (e .discharge) }))) ≡ true
       go true o f x y z k q = rw (abs-neg (c .velocity)) m
       go false true f x y z k q = m
@@ -114,29 +117,29 @@ module _ (s : Reach) (k : Sound s) (t : ℕ) where
   abbrev side : ℕ → Bool
   side i = sideMeets t (s .cellLength) (rightSide s i)
 
-  left-fits : boundaryFits (leftBoundary (s .boundaries)) ≡ true
+  left-fits : boundaryFits (leftBoundary (s .held .boundaries)) ≡ true
   unfolding boundariesFit
   left-fits = all-of _ (k .boundaries) 0
 
-  right-fits : boundaryFits (rightBoundary (s .boundaries)) ≡ true
+  right-fits : boundaryFits (rightBoundary (s .held .boundaries)) ≡ true
   unfolding boundariesFit
   right-fits = all-of _ (k .boundaries) 1
 
   -- a place past the left boundary, by whether it is a cell
   place-of : (i : ℕ) (P : Bool → Type 0) → (i < cells s → P (sideMeets t (s .cellLength) (cellSide s i)))
-      → (cells s ≤ i → P (leb (t * boundarySpeed (rightBoundary (s .boundaries))) (1_000 * s .cellLength))) → P (place (suc i))
-  unfolding placeSpeed speedAt signalSpeed sideMeets cellSide
+      → (cells s ≤ i → P (leb (t * rightSpeed s) (1_000 * s .cellLength))) → P (place (suc i))
+  unfolding placeSpeed speedAt signalSpeed sideMeets sideSpeed cellSide
   place-of i P f g =
-      by-less i (length (s .depth)) (λ b. P (leb (t * cond b (signalSpeed (depthAt s i) (dischargeAt s i)) (boundarySpeed (rightBoundary (s .boundaries)))) (1_000 * s .cellLength)))
+      by-less i (length (s .depth)) (λ b. P (leb (t * cond b (signalSpeed (depthAt s i) (dischargeAt s i)) (rightSpeed s)) (1_000 * s .cellLength)))
       (λ l. f (omega (arith, k .depths)))
       (λ l. g (omega (arith, k .depths)))
 
-  place-first : place 0 ≡ leb (t * boundarySpeed (leftBoundary (s .boundaries))) (1_000 * s .cellLength)
+  place-first : place 0 ≡ leb (t * leftSpeed s) (1_000 * s .cellLength)
   unfolding placeSpeed speedAt
   place-first = refl
 
   to-places : sidesMeet s t ≡ true → meetsCfl (placeSpeed s) (cells s + 1) (s .cellLength) t ≡ true
-  unfolding sidesMeet meetsCfl leftSide
+  unfolding sidesMeet meetsCfl leftSide leftSpeed rightSpeed
   to-places m = all-below place (suc (cells s + 1)) go
     where
       first : sideMeets t (s .cellLength) (leftSide s 0) ≡ true
@@ -146,16 +149,16 @@ module _ (s : Reach) (k : Sound s) (t : ℕ) where
       all = and-right (sideMeets t (s .cellLength) (leftSide s 0)) _ m
 
       go : (p : ℕ) → p < suc (cells s + 1) → place p ≡ true
-      go zero l = place-first ∙ end-counts t (s .cellLength) (leftBoundary (s .boundaries)) (cellSide s 0) first
+      go zero l = place-first ∙ boundary-counts t (s .cellLength) Left (leftBoundary (s .held .boundaries)) (cellSide s 0) first
       go (suc i) l =
           place-of i (λ b. b ≡ true)
           (λ j. rw (right-side-cell s i j) at (all-at side (suc (cells s)) i all (omega arith)))
-          (λ j. end-counts t (s .cellLength) (rightBoundary (s .boundaries)) (cellSide s (cells s - 1))
+          (λ j. boundary-counts t (s .cellLength) Right (rightBoundary (s .held .boundaries)) (cellSide s (cells s - 1))
           (rw (right-side-end s) at (all-at side (suc (cells s)) (cells s) all (omega arith))))
 
   to-sides : meetsCfl (placeSpeed s) (cells s + 1) (s .cellLength) t ≡ true → sidesMeet s t ≡ true
-  unfolding sidesMeet meetsCfl leftSide
-  to-sides m = and-both _ _ (end-meets t (s .cellLength) (leftBoundary (s .boundaries)) (cellSide s 0) left-fits (cell 0 (k .some)) (sym place-first ∙ at 0 (omega arith))) (all-below side (suc (cells s)) go)
+  unfolding sidesMeet meetsCfl leftSide leftSpeed rightSpeed
+  to-sides m = and-both _ _ (boundary-meets t (s .cellLength) Left (leftBoundary (s .held .boundaries)) (cellSide s 0) left-fits (cell 0 (k .some)) (sym place-first ∙ at 0 (omega arith))) (all-below side (suc (cells s)) go)
     where
       at : (p : ℕ) → p < suc (cells s + 1) → place p ≡ true
       at p l = all-at place (suc (cells s + 1)) p m l
@@ -163,8 +166,8 @@ module _ (s : Reach) (k : Sound s) (t : ℕ) where
       cell : (i : ℕ) → i < cells s → sideMeets t (s .cellLength) (cellSide s i) ≡ true
       cell i l = place-of i (λ b. b ≡ true → sideMeets t (s .cellLength) (cellSide s i) ≡ true) (λ j q. q) (λ j q. absurd (omega arith)) (at (suc i) (omega arith))
 
-      last : leb (t * boundarySpeed (rightBoundary (s .boundaries))) (1_000 * s .cellLength) ≡ true
-      last = place-of (cells s) (λ b. b ≡ true → leb (t * boundarySpeed (rightBoundary (s .boundaries))) (1_000 * s .cellLength) ≡ true) (λ j q. absurd (omega arith)) (λ j q. q) (at (suc (cells s)) (omega arith))
+      last : leb (t * rightSpeed s) (1_000 * s .cellLength) ≡ true
+      last = place-of (cells s) (λ b. b ≡ true → leb (t * rightSpeed s) (1_000 * s .cellLength) ≡ true) (λ j q. absurd (omega arith)) (λ j q. q) (at (suc (cells s)) (omega arith))
 
       go : (i : ℕ) → i < suc (cells s) → side i ≡ true
       go i l =
@@ -173,12 +176,12 @@ module _ (s : Reach) (k : Sound s) (t : ℕ) where
           (λ j.
           let n : i ≡ cells s = omega arith in
           rw (n, right-side-end s)
-          (end-meets t (s .cellLength) (rightBoundary (s .boundaries)) (cellSide s (cells s - 1)) right-fits (cell (cells s - 1) (let o = k .some in omega arith)) last))
+          (boundary-meets t (s .cellLength) Right (rightBoundary (s .held .boundaries)) (cellSide s (cells s - 1)) right-fits (cell (cells s - 1) (let o = k .some in omega arith)) last))
 
   pub met-is : sidesMeet s t ≡ meetsCfl (placeSpeed s) (cells s + 1) (s .cellLength) t
   met-is = same-truth _ _ to-places to-sides
 
-  -- ---- what the sweep found is what grounds 12 and the settling test read
+  -- ---- what the sweep found is what grounds 12 and the transport test read
 
   module _ (net : List ℤ) (depth : List ℕ) (discharge : List ℤ) (w : Swept s t net depth discharge) where
     below : (z : ℤ) (n : ℕ) → leZ z (pos n) ≡ leb (positive z) n
@@ -221,7 +224,7 @@ module _ (s : Reach) (k : Sound s) (t : ℕ) where
     unfolding transportedFirst afterTransport
     interfaces-kept = go (keepsSums s t)
       where
-        go : (b : Bool) → length (cond b s (afterTransport s (s .boundaries)) .carried) ≡ suc (cells s)
+        go : (b : Bool) → length (cond b s (afterTransport s) .carried) ≡ suc (cells s)
         go true = k .interfaces ∙ add-one (cells s)
         go false = length-replicate (length (s .carried)) (pos 0) ∙ k .interfaces ∙ add-one (cells s)
 
@@ -229,9 +232,9 @@ module _ (s : Reach) (k : Sound s) (t : ℕ) where
     unfolding transportedFirst
     transported-small i l = go (keepsSums s t)
       where
-        go : (b : Bool) → natAbs (carriedAt (cond b s (afterTransport s (s .boundaries))) i) ≤ carriedMost
+        go : (b : Bool) → natAbs (carriedAt (cond b s (afterTransport s)) i) ≤ carriedMost
         go true = carried-small s k i l
-        go false = rw (carried-zero s k (s .boundaries) i (omega (arith, k .interfaces))) (omega arith)
+        go false = rw (carried-zero s k i (omega (arith, k .interfaces))) (omega arith)
 
     module _ (c : List ℤ) (e : c ≡ transportedFirst s t .carried) where
       pub carried-written : tabulate (length c) (λ i. getD c i (pos 0) +ℤ getD net i (pos 0)) ≡ afterStep s t .carried
@@ -245,7 +248,7 @@ module _ (s : Reach) (k : Sound s) (t : ℕ) where
           let b = net-at g i j in
           (omega (arith, a), omega (arith, b))
 
-  -- ---- the settling inside the step
+  -- ---- the transport inside the step
 
   module _ (v : Bool) (e : v ≡ not (keepsSums s t)) where
     module _ (a b c d : ℕ) (x : BoundaryMassWhen v (massColumnsOf s) a b c d) where
@@ -267,17 +270,17 @@ module _ (s : Reach) (k : Sound s) (t : ℕ) where
           let plus : (n : ℕ) → n + 0 ≡ n = λ n. omega arith in
           rw (plus (l .left .«mass_in»), plus (l .left .«mass_out»), plus (l .right .«mass_in»), plus (l .right .«mass_out»)) refl
 
-      ledger-when : ledgerWith (s .ledger) a b c d ≡ transportedFirst s t .ledger
+      ledger-when : ledgerWith (s .held .ledger) a b c d ≡ transportedFirst s t .held .ledger
       unfolding transportedFirst afterTransport
       ledger-when = go (keepsSums s t) refl
         where
-          go : (u : Bool) → keepsSums s t ≡ u → ledgerWith (s .ledger) a b c d ≡ cond u s (afterTransport s (s .boundaries)) .ledger
+          go : (u : Bool) → keepsSums s t ≡ u → ledgerWith (s .held .ledger) a b c d ≡ cond u s (afterTransport s) .held .ledger
           go true p =
               let z = x .kept (e ∙ ap not p) in
-              rw (z .0, z .1, z .2, z .3) (none (s .ledger))
+              rw (z .0, z .1, z .2, z .3) (none (s .held .ledger))
           go false p = ledger-is s k a b c d (x .transported (e ∙ ap not p))
 
-      pub ledger-after : (first last : ℤ) → first ≡ netAt s t 0 → last ≡ netAt s t (cells s) → withBoundaryWater (ledgerWith (s .ledger) a b c d) first last ≡ stepLedger s t
+      pub ledger-after : (first last : ℤ) → first ≡ netAt s t 0 → last ≡ netAt s t (cells s) → withBoundaryWater (ledgerWith (s .held .ledger) a b c d) first last ≡ stepLedger s t
       unfolding stepLedger
       ledger-after first last p q = rw (p, q, ledger-when) refl
 
@@ -285,7 +288,7 @@ module _ (s : Reach) (k : Sound s) (t : ℕ) where
       unfolding afterStep transportedFirst afterTransport
       mass-when = rw e (go (keepsSums s t) refl)
         where
-          go : (u : Bool) → keepsSums s t ≡ u → cond (not u) (movedMass (massColumns (s .mass) (s .base) (s .carried) a c)) (s .mass) ≡ cond u s (afterTransport s (s .boundaries)) .mass
+          go : (u : Bool) → keepsSums s t ≡ u → cond (not u) (movedMass (massColumns (s .mass) (s .base) (s .carried) a c)) (s .mass) ≡ cond u s (afterTransport s) .mass
           go true p = refl
           go false p = let y = x .transported (e ∙ ap not p) in rw (y .left-in, y .right-in) refl
 
@@ -293,7 +296,7 @@ module _ (s : Reach) (k : Sound s) (t : ℕ) where
     unfolding afterStep transportedFirst afterTransport
     base-when = rw e (go (keepsSums s t))
       where
-        go : (u : Bool) → cond (not u) (s .depth) (s .base) ≡ cond u s (afterTransport s (s .boundaries)) .base
+        go : (u : Bool) → cond (not u) (s .depth) (s .base) ≡ cond u s (afterTransport s) .base
         go true = refl
         go false = refl
 
@@ -301,41 +304,41 @@ module _ (s : Reach) (k : Sound s) (t : ℕ) where
     unfolding transportedFirst afterTransport
     carried-when = rw e (go (keepsSums s t))
       where
-        go : (u : Bool) → cond (not u) (replicate (length (s .carried)) (pos 0)) (s .carried) ≡ cond u s (afterTransport s (s .boundaries)) .carried
+        go : (u : Bool) → cond (not u) (replicate (length (s .carried)) (pos 0)) (s .carried) ≡ cond u s (afterTransport s) .carried
         go true = refl
         go false = refl
 
 -- ---- what each outcome is
 
 -- no ground has the number 0
-pub refused-positive : (s : Reach) (n : ℕ) → firstRefusal (recordGrounds s (s .boundaries)) ≡ Refused n → 0 < n
+pub refused-positive : (s : Reach) (n : ℕ) → firstRefusal (recordGrounds s (s .held .boundaries)) ≡ Refused n → 0 < n
 unfolding numbered
-refused-positive s n e = refused-number (recordGrounds s (s .boundaries)) n refl e
+refused-positive s n e = refused-number (recordGrounds s (s .held .boundaries)) n refl e
 
 module _ (s : Reach) (t : ℕ) where
-  pub stopped-before : (n : ℕ) → firstRefusal (recordGrounds s (s .boundaries)) ≡ Refused n → step s t ≡ record { refusal = n; reach = s }
+  pub stopped-before : (n : ℕ) → firstRefusal (recordGrounds s (s .held .boundaries)) ≡ Refused n → step s t ≡ record { refusal = n; reach = s }
   unfolding step
-  stopped-before n e = ap (λ (k : Check). outcome k s (afterStep s t)) (no-further (recordGrounds s (s .boundaries)) _ n e)
+  stopped-before n e = ap (λ (k : Check). outcome k s (afterStep s t)) (no-further (recordGrounds s (s .held .boundaries)) _ n e)
 
-  module _ (e : firstRefusal (recordGrounds s (s .boundaries)) ≡ Pass) where
+  module _ (e : firstRefusal (recordGrounds s (s .held .boundaries)) ≡ Pass) where
     pub stopped-10 : timeFits t ≡ false → step s t ≡ record { refusal = 10; reach = s }
     unfolding step
-    stopped-10 f = ap (λ (k : Check). outcome k s (afterStep s t)) (further (recordGrounds s (s .boundaries)) _ e ∙ stop-at _ _ f)
+    stopped-10 f = ap (λ (k : Check). outcome k s (afterStep s t)) (further (recordGrounds s (s .held .boundaries)) _ e ∙ stop-at _ _ f)
 
     module _ (time : timeFits t ≡ true) where
       pub stopped-11 : meetsCfl (placeSpeed s) (cells s + 1) (s .cellLength) t ≡ false → step s t ≡ record { refusal = 11; reach = s }
       unfolding step
-      stopped-11 f = ap (λ (k : Check). outcome k s (afterStep s t)) (further (recordGrounds s (s .boundaries)) _ e ∙ go-on _ _ time (stop-at _ _ f))
+      stopped-11 f = ap (λ (k : Check). outcome k s (afterStep s t)) (further (recordGrounds s (s .held .boundaries)) _ e ∙ go-on _ _ time (stop-at _ _ f))
 
       module _ (cfl : meetsCfl (placeSpeed s) (cells s + 1) (s .cellLength) t ≡ true) where
         pub stopped-12 : depthsFit s t ≡ false → step s t ≡ record { refusal = 12; reach = s }
         unfolding step
-        stopped-12 f = ap (λ (k : Check). outcome k s (afterStep s t)) (further (recordGrounds s (s .boundaries)) _ e ∙ go-on _ _ time (go-on _ _ cfl (stop-at _ _ f)))
+        stopped-12 f = ap (λ (k : Check). outcome k s (afterStep s t)) (further (recordGrounds s (s .held .boundaries)) _ e ∙ go-on _ _ time (go-on _ _ cfl (stop-at _ _ f)))
 
         module _ (deep : depthsFit s t ≡ true) where
           at-last : (b : Bool) → ledgerFits (stepLedger s t) ≡ b → firstRefusal (stepGrounds s t) ≡ passOr 13 b
           at-last b f =
-              further (recordGrounds s (s .boundaries)) _ e ∙ go-on _ _ time (go-on _ _ cfl (go-on _ _ deep (last-one 13 (ledgerFits (stepLedger s t)) ∙ ap (passOr 13) f)))
+              further (recordGrounds s (s .held .boundaries)) _ e ∙ go-on _ _ time (go-on _ _ cfl (go-on _ _ deep (last-one 13 (ledgerFits (stepLedger s t)) ∙ ap (passOr 13) f)))
 
           pub stopped-13 : ledgerFits (stepLedger s t) ≡ false → step s t ≡ record { refusal = 13; reach = s }
           unfolding step
@@ -347,14 +350,13 @@ module _ (s : Reach) (t : ℕ) where
 
   -- a refused step leaves everything as it came
   pub stayed : (n : ℕ) → 0 < n → step s t ≡ record { refusal = n; reach = s }
-      → StepCameTo s t (stoppedBy n (s .boundaries) (s .ledger)) (s .depth) (s .discharge) (s .mass) (s .base) (s .carried)
+      → StepCameTo s t (stoppedBy n (s .held)) (s .depth) (s .discharge) (s .mass) (s .base) (s .carried)
   unfolding transports
   stayed n p e =
       let z : eqb n 0 ≡ false = ne-eqb n 0 (λ q. absurd (omega (arith, p, q))) in
       record {
         refusal-is = ap (λ (o : Outcome). o .refusal) (sym e);
-        boundaries-are = ap (λ (o : Outcome). o .reach .boundaries) (sym e);
-        ledger-is = ap (λ (o : Outcome). o .reach .ledger) (sym e);
+        held-is = ap (λ (o : Outcome). o .reach .held) (sym e);
         transported-is = rw (e, z) refl;
         depth-is = ap (λ (o : Outcome). o .reach .depth) (sym e);
         discharge-is = ap (λ (o : Outcome). o .reach .discharge) (sym e);
@@ -368,15 +370,14 @@ module _ (s : Reach) (t : ℕ) where
   transports-is e = rw e refl
 
   -- an accepted one leaves the record after the step
-  pub came : {l : Ledger} {v : Bool} {h : List ℕ} {q : List ℤ} {m b : List ℕ} {c : List ℤ} → step s t ≡ record { refusal = 0; reach = afterStep s t }
+  pub came-out : {l : Ledger} {v : Bool} {h : List ℕ} {q : List ℤ} {m b : List ℕ} {c : List ℤ} → step s t ≡ record { refusal = 0; reach = afterStep s t }
       → l ≡ stepLedger s t → v ≡ not (keepsSums s t)
       → h ≡ afterStep s t .depth → q ≡ afterStep s t .discharge → m ≡ afterStep s t .mass → b ≡ afterStep s t .base → c ≡ afterStep s t .carried
-      → StepCameTo s t (record { refusal = 0; boundaries = s .boundaries; ledger = l; transported = v }) h q m b c
+      → StepCameTo s t (record { refusal = 0; held = withLedger l (s .held); transported = v }) h q m b c
   unfolding afterStep
-  came e l v h q m b c = record {
+  came-out e l v h q m b c = record {
     refusal-is = ap (λ (o : Outcome). o .refusal) (sym e);
-    boundaries-are = ap (λ (o : Outcome). o .reach .boundaries) (sym e);
-    ledger-is = l ∙ ap (λ (o : Outcome). o .reach .ledger) (sym e);
+    held-is = ap (λ (k : Ledger). withLedger k (s .held)) l ∙ ap (λ (o : Outcome). o .reach .held) (sym e);
     transported-is = v ∙ sym (transports-is e);
     depth-is = h ∙ ap (λ (o : Outcome). o .reach .depth) (sym e);
     discharge-is = q ∙ ap (λ (o : Outcome). o .reach .discharge) (sym e);
@@ -384,3 +385,21 @@ module _ (s : Reach) (t : ℕ) where
     base-is = b ∙ ap (λ (o : Outcome). o .reach .base) (sym e);
     carried-is = c ∙ ap (λ (o : Outcome). o .reach .carried) (sym e);
   }
+
+-- ---- what a step left in the columns, with what it handed back, is the record of the definition
+
+-- it leaves the bed and X
+kept : (s : Reach) (t : ℕ) →
+    let r = step s t .reach in
+    reachOf (s .bed) (r .depth) (r .discharge) (r .mass) (r .base) (r .carried) (s .cellLength) (r .held) ≡ r
+unfolding afterStep
+kept s t =
+    by-step s t
+    (λ o. let r = o .reach in
+    reachOf (s .bed) (r .depth) (r .discharge) (r .mass) (r .base) (r .carried) (s .cellLength) (r .held) ≡ r)
+    (λ n p. refl)
+    (λ k c d l. refl)
+
+pub left-by-step : (s : Reach) (t : ℕ) {r : StepAnswer} {h : List ℕ} {q : List ℤ} {m b : List ℕ} {c : List ℤ} → StepCameTo s t r h q m b c
+    → reachOf (s .bed) h q m b c (s .cellLength) (r .held) ≡ step s t .reach
+left-by-step s t k = rw (k .depth-is, k .discharge-is, k .mass-is, k .base-is, k .carried-is, k .held-is) (kept s t)

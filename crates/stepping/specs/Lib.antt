@@ -1,3 +1,2 @@
-pub mod GreatestStep
-pub mod Step
+pub mod StepCall
 pub mod Ranges

@@ -1,14 +1,15 @@
-// The ledger of a step: end water goes in by the sign of N, with the mass of a settling inside the step; ground 13.
+// The ledger of a step: boundary water (the paper's 'end water') goes in by the sign of N, with the mass of a transport inside the step; ground 13.
 ghost use mathlib.Core.Path.{_≡_};
 ghost use mathlib.Core.Bool.{true};
 ghost use Prim.Native.Nat.{_≤_};
 ghost use lib.IntN.{natAbs};
 ghost use Rattle.reach.specs.Limits.{totalMost};
 ghost use Rattle.reach.specs.Grounds.{ledgerFits};
-ghost use Rattle.transport.specs.Calls.{ledgerWith, pickEntered};
+ghost use Rattle.transport.specs.Calls.{ledgerWith};
 ghost use Rattle.transport.specs.Ranges.{Small};
+ghost use Rattle.transport.specs.Calls.{pickEntered};
 ghost use Rattle.water.specs.Ranges.{fluxMost};
-ghost use Rattle.stepping.specs.Step.{withWater, withBoundaryWater};
+ghost use Rattle.update.specs.Step.{withWater, withBoundaryWater};
 use numbers::signed::left_part;
 use numbers::signed::right_part;
 use reach::ledger::Ledger;

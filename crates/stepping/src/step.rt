@@ -7,10 +7,11 @@ ghost use lib.IntN.{pos, _+ℤ_, natAbs};
 ghost use lib.ListN.{length, getD};
 ghost use Rattle.numbers.specs.Index.{allBelow, tabulate};
 ghost use Rattle.flux.specs.Limits.{depthMost};
-ghost use Rattle.reach.specs.Reach.{reachOf};
+ghost use Rattle.reach.specs.Reach.{reachOf, came};
 ghost use Rattle.reach.specs.Grounds.{firstRefusal, recordGrounds, numberOf, passOr};
 ghost use Rattle.reach.specs.declared.refusal.Check.the-variants.{Pass};
-ghost use Rattle.stepping.specs.Step.{timeFits, stoppedBy, StepCameTo};
+ghost use Rattle.update.specs.Step.{timeFits};
+ghost use Rattle.stepping.specs.StepCall.{stoppedBy, StepCameTo};
 use super::ledger::enter_step;
 use super::transporting::boundary_mass_when;
 use super::transporting::keeps_sums;
@@ -18,42 +19,39 @@ use super::transporting::transport_when;
 use numbers::columns::add_column;
 use numbers::columns::copy_first;
 use numbers::columns::copy_first_signed;
-use reach::boundary::Boundary;
 use reach::cells::CELLS_MOST;
 use reach::check_record;
-use reach::ledger::Ledger;
+use reach::held::Held;
 use reach::refusal::Check;
 use transport::Entered;
 use water::sweep::sweep;
 
-// What a step hands back: 0 or the number of its refusal, the boundaries held, the ledger, and whether it settled first.
-// A refused step hands the boundaries and the ledger back as they came, and has not settled.
+// What a step hands back: 0 or the number of its refusal, the boundaries held, the ledger, and whether it transported first.
+// A refused step hands the boundaries and the ledger back as they came, and has not transported.
 #[repr(C)]
 pub struct StepAnswer {
     pub refusal: u32,
-    pub boundaries: [Boundary; 2],
-    pub ledger: Ledger,
+    pub held: Held,
     pub transported: bool,
 }
 
-fn stopped(n: u32, boundaries: [Boundary; 2], ledger: Ledger) -> StepAnswer
-    ensures { λ r. ⌜ r ≡ stoppedBy n boundaries ledger ⌝ }
+fn stopped(n: u32, held: Held) -> StepAnswer
+    ensures { λ r. ⌜ r ≡ stoppedBy n held ⌝ }
 {
     StepAnswer {
         refusal: n,
-        boundaries,
-        ledger,
+        held,
         transported: false,
     }
 }
 
-fn refused(k: Check, boundaries: [Boundary; 2], ledger: Ledger) -> StepAnswer
-    ensures { λ r. ⌜ r ≡ stoppedBy (numberOf k) boundaries ledger ⌝ }
+fn refused(k: Check, held: Held) -> StepAnswer
+    ensures { λ r. ⌜ r ≡ stoppedBy (numberOf k) held ⌝ }
 {
     let Check::Refused(n) = k else {
-        return stopped(0, boundaries, ledger);
+        return stopped(0, held);
     };
-    stopped(n, boundaries, ledger)
+    stopped(n, held)
 }
 
 // Ground 10
@@ -113,14 +111,15 @@ fn advance(
     base: &mut [u64],
     carried: &mut [i64],
     x: u64,
-    boundaries: [Boundary; 2],
-    ledger: Ledger,
+    held: Held,
     t: u64,
 ) -> StepAnswer
-    requires { ⌜ firstRefusal (recordGrounds (reachOf (now bed) (now depth) (now discharge) (now mass) (now base) (now carried) x boundaries ledger) boundaries) ≡ Pass ⌝ }
+    requires { ⌜ firstRefusal (recordGrounds (reachOf (now bed) (now depth) (now discharge) (now mass) (now base) (now carried) x held) (held .boundaries)) ≡ Pass ⌝ }
     requires { ⌜ timeFits t ≡ true ⌝ }
-    ensures { λ r. ⌜ StepCameTo (reachOf (now (bed .entry)) (now (depth .entry)) (now (discharge .entry)) (now (mass .entry)) (now (base .entry)) (now (carried .entry)) x boundaries ledger) t r (now (depth .exit)) (now (discharge .exit)) (now (mass .exit)) (now (base .exit)) (now (carried .exit)) ⌝ }
+    ensures { λ r. ⌜ StepCameTo (came bed depth discharge mass base carried x held) t r (now (depth .exit)) (now (discharge .exit)) (now (mass .exit)) (now (base .exit)) (now (carried .exit)) ⌝ }
 {
+    let boundaries = held.boundaries;
+    let ledger = held.ledger;
     let n = bed.len();
     let mut net = [0i64; CELLS_MOST + 1];
     let mut new_depth = [0u64; CELLS_MOST];
@@ -136,15 +135,15 @@ fn advance(
         &mut new_depth,
         &mut new_discharge,
     ) else {
-        return stopped(11, boundaries, ledger);
+        return stopped(11, held);
     };
     let Check::Pass = check_depths(&new_depth, n) else {
-        return stopped(12, boundaries, ledger);
+        return stopped(12, held);
     };
     let transports = !keeps_sums(base, carried, &net);
     let crossed = boundary_mass_when(transports, mass, base, carried, boundaries);
     let Entered::Accepted(next) = enter_step(ledger, crossed, net[0], net[n]) else {
-        return stopped(13, boundaries, ledger);
+        return stopped(13, held);
     };
     transport_when(
         transports,
@@ -156,10 +155,13 @@ fn advance(
         crossed.right_in,
     );
     write_step(depth, discharge, carried, &net, &new_depth, &new_discharge);
-    StepAnswer {
-        refusal: 0,
+    let after = Held {
         boundaries,
         ledger: next,
+    };
+    StepAnswer {
+        refusal: 0,
+        held: after,
         transported: transports,
     }
 }
@@ -173,12 +175,12 @@ pub fn step(
     base: &mut [u64],
     carried: &mut [i64],
     x: u64,
-    boundaries: [Boundary; 2],
-    ledger: Ledger,
+    held: Held,
     t: u64,
 ) -> StepAnswer
-    ensures { λ r. ⌜ StepCameTo (reachOf (now (bed .entry)) (now (depth .entry)) (now (discharge .entry)) (now (mass .entry)) (now (base .entry)) (now (carried .entry)) x boundaries ledger) t r (now (depth .exit)) (now (discharge .exit)) (now (mass .exit)) (now (base .exit)) (now (carried .exit)) ⌝ }
+    ensures { λ r. ⌜ StepCameTo (came bed depth discharge mass base carried x held) t r (now (depth .exit)) (now (discharge .exit)) (now (mass .exit)) (now (base .exit)) (now (carried .exit)) ⌝ }
 {
+    let boundaries = held.boundaries;
     let checked = check_record(
         bed,
         depth,
@@ -187,26 +189,14 @@ pub fn step(
         base,
         carried,
         x,
-        boundaries,
-        ledger,
+        held,
         boundaries,
     );
     let Check::Pass = checked else {
-        return refused(checked, boundaries, ledger);
+        return refused(checked, held);
     };
     let Check::Pass = check_time(t) else {
-        return stopped(10, boundaries, ledger);
+        return stopped(10, held);
     };
-    advance(
-        bed,
-        depth,
-        discharge,
-        mass,
-        base,
-        carried,
-        x,
-        boundaries,
-        ledger,
-        t,
-    )
+    advance(bed, depth, discharge, mass, base, carried, x, held, t)
 }

@@ -1,13 +1,13 @@
-// The settling test of a step, and the settling inside it.
+// The transport test of a step, and the transport inside it.
 ghost use mathlib.Core.Path.{_≡_};
 ghost use mathlib.Core.Bool.{true, false, cond};
 ghost use Prim.Native.Nat.{ℕ, _+_, _≤_, _<_};
 ghost use lib.Dec.{leb};
-ghost use lib.IntN.{pos, _+ℤ_, negℤ, natAbs};
+ghost use lib.IntN.{pos, _+ℤ_, natAbs};
 ghost use lib.ListN.{length, getD, replicate};
-ghost use Rattle.numbers.specs.Signed.{positive};
-ghost use Rattle.mass.specs.Transport.{massColumns, movedMass};
-ghost use Rattle.mass.specs.Ranges.{Ready};
+ghost use Rattle.reach.specs.Parts.{outflow};
+ghost use Rattle.mass.specs.Transport.{massColumns};
+ghost use Rattle.mass.specs.Ranges.{Ready, movedMass};
 ghost use Rattle.transport.specs.Ranges.{massColumnsWith};
 ghost use Rattle.stepping.specs.Ranges.{Summable, sumsKept, BoundaryMassWhen};
 use numbers::signed::left_part;
@@ -21,7 +21,7 @@ use transport::commit;
 // What left a cell of base depth b, over its right and over its left, is covered by it.
 fn covers(b: u64, left: i64, right: i64) -> bool
     requires { ⌜ (natAbs left ≤ 2_000_000_000) × (natAbs right ≤ 2_000_000_000) ⌝ }
-    ensures { λ r. ⌜ r ≡ leb (positive right + positive (negℤ left)) b ⌝ }
+    ensures { λ r. ⌜ r ≡ leb (outflow left right) b ⌝ }
 {
     right_part(right) + left_part(left) <= b
 }
@@ -46,7 +46,7 @@ pub fn keeps_sums(base: &[u64], carried: &[i64], net: &[i64]) -> bool
     true
 }
 
-// The mass that crosses both boundaries where the step settles first; none where it does not
+// The mass that crosses both boundaries where the step transports first; none where it does not
 pub fn boundary_mass_when(
     transports: bool,
     mass: &[u64],
@@ -69,7 +69,7 @@ pub fn boundary_mass_when(
     boundary_mass_of(mass, base, carried, boundaries)
 }
 
-// The settling inside a step, with the depths from before it
+// The transport inside a step, with the depths from before it
 pub fn transport_when(
     transports: bool,
     depth: &[u64],

@@ -14,27 +14,27 @@ use Rattle.mass.specs.Transport.{rightwards, leftwards, leftShare, rightShare}
 use Rattle.reach.specs.Reach.{Reach, cells}
 use Rattle.reach.specs.Grounds.{firstRefusal, ledgerFits}
 use Rattle.reach.specs.Outcome.{Outcome, outcome}
-use Rattle.reach.specs.Balance.{waterHeld, waterIn, waterOut, WaterBalanced, massHeld, massIn, massOut, MassBalanced, CellsWithin, BoundariesWithin}
+use Rattle.reach.specs.Balance.{waterHeld, waterIn, waterOut, WaterBalanced, massHeld, massIn, massOut, MassBalanced, everywhere, CellsWithin, BoundariesWithin}
 use Rattle.reach.specs.declared.boundary.Boundary.{Boundary}
 use Rattle.reach.specs.declared.ledger.Ledger.{Ledger}
 use Rattle.reach.specs.declared.refusal.Check.{Check}
 use Rattle.reach.specs.declared.refusal.Check.the-variants.{Pass, Refused}
 use Rattle.reach.proofs.Sound.{Sound}
-use Rattle.transport.specs.Calls.{enteringLeft, enteringRight, massColumnsOf, withMass, ledgerWith, transportLedger, afterTransport, transport, setBoundaries}
-use Rattle.transport.proofs.CallsLaws.{by-outcome, transport-balanced, transport-within}
+use Rattle.transport.specs.Calls.{enteringLeft, enteringRight, massColumnsOf, withMass, ledgerWith, transportLedger, afterTransport, transport, holding, setBoundaries}
+use Rattle.transport.proofs.CallsLaws.{by-outcome, by-transport, transport-balanced, transport-within}
 use Rattle.water.specs.Water.{netAt, newDepth}
 use Rattle.cfl.specs.Cfl.{meetsCfl}
-use Rattle.stepping.specs.GreatestStep.{placeSpeed, greatest}
-use Rattle.stepping.specs.Step.{keepsSums, transportedFirst, withWater, withBoundaryWater, stepLedger, afterStep, step}
-use Rattle.stepping.proofs.StepLaws.{by-step, depth-not-negative, step-water-balanced, step-mass-balanced, step-within}
+use Rattle.timestep.specs.GreatestStep.{placeSpeed, greatest}
+use Rattle.update.specs.Step.{keepsSums, transportedFirst, withWater, withBoundaryWater, stepLedger, afterStep, step}
+use Rattle.update.proofs.StepLaws.{by-step, depth-not-negative, step-water-balanced, step-mass-balanced, step-within}
 use Rattle.sheet.specs.Header.{boundariesOf}
 use Rattle.sheet.specs.Opening.{sheetRecord, opening}
 use Rattle.sheet.proofs.OpeningLaws.{by-opening}
-use Rattle.tally.specs.Call.{Call, stepCall, transportCall, boundariesCall, greatestCall, writeCall, openCall, refusalOf, next, final}
+use Rattle.tally.specs.Call.{Free, Call, Entry, stepCall, transportCall, boundariesCall, greatestCall, writeCall, openCall, refusalOf, next, final}
 use Rattle.tally.specs.Tally.{AcceptedStep, Tally, addWater, addMass, addStep, withSums, start, countStep, countTransport, countSetting, accepted, ifAccepted, count, run}
 use Rattle.tally.specs.Holds.{Each, DepthsFromZero, Accounts, Holds, OfDefinitions}
 
--- ---- the tally's sums are the ledger of the definitions: document 01 gives each once as a book and once as a tally
+-- ---- the tally's sums are the ledger of the definitions: document 01 gives each once as a ledger and once as a tally
 
 module _ (s : Reach) (k : Sound s) where
   first-out : leftwards (massColumnsOf s) 0 ≡ leftShare (massColumnsOf s) 0
@@ -48,17 +48,17 @@ module _ (s : Reach) (k : Sound s) where
       let e : cells s ≡ suc (cells s - 1) = omega arith in
       ap (rightwards (massColumnsOf s)) e
 
-  pub mass-added : addMass s (s .ledger) ≡ transportLedger s
+  pub mass-added : addMass s (s .held .ledger) ≡ transportLedger s
   unfolding addMass transportLedger ledgerWith withMass enteringLeft enteringRight
   mass-added = rw (first-out, last-out) refl
 
-  pub step-added : (t : ℕ) → addStep s t (s .ledger) ≡ stepLedger s t
+  pub step-added : (t : ℕ) → addStep s t (s .held .ledger) ≡ stepLedger s t
   unfolding addStep addWater stepLedger withBoundaryWater withWater transportedFirst afterTransport
   step-added t = rw mass-added (go (keepsSums s t))
     where
       go : (b : Bool) →
-          addWater (netAt s t 0) (netAt s t (cells s)) (cond b (s .ledger) (transportLedger s))
-          ≡ withBoundaryWater (cond b s (afterTransport s (s .boundaries)) .ledger) (netAt s t 0) (netAt s t (cells s))
+          addWater (netAt s t 0) (netAt s t (cells s)) (cond b (s .held .ledger) (transportLedger s))
+          ≡ withBoundaryWater (cond b s (afterTransport s) .held .ledger) (netAt s t 0) (netAt s t (cells s))
       go true = refl
       go false = refl
 
@@ -66,8 +66,10 @@ module _ (s : Reach) (k : Sound s) where
 
 pub record Kept (T : Tally) : Type 0 where
   pub holds : Holds T (T .own)
-  -- what the bounds of a settling need
-  pub boundaries-within : (lo hi : ℕ) → Each (BoundariesWithin lo hi) (T .held) → BoundariesWithin lo hi (T .own .boundaries)
+  -- what the bounds of a transport need
+  pub boundaries-within : (lo hi : ℤ)
+      → Each (BoundariesWithin (everywhere lo) (everywhere hi) (cells (T .initial))) (T .held)
+      → BoundariesWithin (everywhere lo) (everywhere hi) (cells (T .own)) (T .own .held .boundaries)
 
 start-kept : (sheet : List ℕ) → Kept (start sheet)
 unfolding start sheetRecord waterHeld waterIn waterOut massHeld massIn massOut Each Accounts
@@ -88,7 +90,7 @@ from-zero n = le-leb 0 n (omega arith)
 
 module _ (T : Tally) (K : Kept T) where
   -- what a balanced call makes of the account since the opening
-  water-on : (s : Reach) (k : Ledger) → s .ledger ≡ k → WaterBalanced (T .own) s → Accounts (waterHeld s) (waterHeld (T .initial)) (waterIn k) (waterOut k)
+  water-on : (s : Reach) (k : Ledger) → s .held .ledger ≡ k → WaterBalanced (T .own) s → Accounts (waterHeld s) (waterHeld (T .initial)) (waterIn k) (waterOut k)
   unfolding WaterBalanced Accounts
   water-on s k e b =
       let h = K .holds .water in
@@ -99,7 +101,7 @@ module _ (T : Tally) (K : Kept T) where
       let o' = ap waterOut e in
       omega arith
 
-  mass-on : (s : Reach) (k : Ledger) → s .ledger ≡ k → MassBalanced (T .own) s → Accounts (massHeld s) (massHeld (T .initial)) (massIn k) (massOut k)
+  mass-on : (s : Reach) (k : Ledger) → s .held .ledger ≡ k → MassBalanced (T .own) s → Accounts (massHeld s) (massHeld (T .initial)) (massIn k) (massOut k)
   unfolding MassBalanced Accounts
   mass-on s k e b =
       let h = K .holds .mass in
@@ -111,13 +113,13 @@ module _ (T : Tally) (K : Kept T) where
       omega arith
 
   -- the sums go on as the ledger does
-  sums-step : Sound (T .own) → (t : ℕ) → afterStep (T .own) t .ledger ≡ addStep (T .own) t (T .sums)
+  sums-step : Sound (T .own) → (t : ℕ) → afterStep (T .own) t .held .ledger ≡ addStep (T .own) t (T .sums)
   unfolding afterStep
   sums-step k t = sym (step-added (T .own) k t) ∙ ap (addStep (T .own) t) (K .holds .ledger)
 
-  sums-mass : Sound (T .own) → (es : List Boundary) → afterTransport (T .own) es .ledger ≡ addMass (T .own) (T .sums)
+  sums-mass : Sound (T .own) → afterTransport (T .own) .held .ledger ≡ addMass (T .own) (T .sums)
   unfolding afterTransport
-  sums-mass k es = sym (mass-added (T .own) k) ∙ ap (addMass (T .own)) (K .holds .ledger)
+  sums-mass k = sym (mass-added (T .own) k) ∙ ap (addMass (T .own)) (K .holds .ledger)
 
   step-kept : (t : ℕ) → Sound (T .own) → meetsCfl (placeSpeed (T .own)) (cells (T .own) + 1) (T .own .cellLength) t ≡ true → Kept (countStep T t)
   unfolding countStep Each DepthsFromZero waterHeld massHeld afterStep
@@ -136,119 +138,120 @@ module _ (T : Tally) (K : Kept T) where
         boundaries-within = K .boundaries-within;
       }
 
-  transported-water : (es : List Boundary) → WaterBalanced (T .own) (afterTransport (T .own) es)
+  transported-water : WaterBalanced (T .own) (afterTransport (T .own))
   unfolding WaterBalanced waterHeld waterIn waterOut afterTransport transportLedger ledgerWith withMass
-  transported-water es = refl
+  transported-water = refl
 
   setting-kept : (es : List Boundary) → Sound (T .own) → Kept (countSetting T es)
-  unfolding countSetting Each waterHeld massHeld afterTransport
+  unfolding countSetting Each waterHeld massHeld afterTransport holding
   setting-kept es k =
-      let e = sums-mass k es in record {
+      let e = sums-mass k in record {
         holds = record {
           own = refl;
           ledger = refl;
-          water = water-on (afterTransport (T .own) es) _ e (transported-water es);
-          mass = mass-on (afterTransport (T .own) es) _ e (transport-balanced (T .own) k es);
+          water = water-on (afterTransport (T .own)) _ e transported-water;
+          mass = mass-on (afterTransport (T .own)) _ e (transport-balanced (T .own) k);
           depths = K .holds .depths;
           bounds = λ lo hi o h.
-              let w = transport-within (T .own) k es lo hi (K .holds .bounds lo hi o (h .1)) (K .boundaries-within lo hi (h .1)) in
+              let w = transport-within (T .own) k lo hi (K .holds .bounds lo hi o (h .1)) (K .boundaries-within lo hi (h .1)) in
               record { above = w .above; below = w .below };
         };
-        boundaries-within = λ lo hi h. h .0;
+        boundaries-within = λ lo hi h. record { left = h .0 .left; right = h .0 .right };
       }
 
   transporting-kept : Sound (T .own) → Kept (countTransport T)
   unfolding countTransport waterHeld massHeld afterTransport
   transporting-kept k =
-      let es = T .own .boundaries in
-      let e = sums-mass k es in record {
+      let e = sums-mass k in record {
         holds = record {
           own = refl;
           ledger = refl;
-          water = water-on (afterTransport (T .own) es) _ e (transported-water es);
-          mass = mass-on (afterTransport (T .own) es) _ e (transport-balanced (T .own) k es);
+          water = water-on (afterTransport (T .own)) _ e transported-water;
+          mass = mass-on (afterTransport (T .own)) _ e (transport-balanced (T .own) k);
           depths = K .holds .depths;
           bounds = λ lo hi o h.
-              let w = transport-within (T .own) k es lo hi (K .holds .bounds lo hi o h) (K .boundaries-within lo hi h) in
+              let w = transport-within (T .own) k lo hi (K .holds .bounds lo hi o h) (K .boundaries-within lo hi h) in
               record { above = w .above; below = w .below };
         };
         boundaries-within = K .boundaries-within;
       }
 
   -- the tally after a call of refusal n
-  abbrev after : ℕ → Call → Tally
-  after n c = ifAccepted n (accepted T c) T
+  abbrev after : ℕ → Free → Call → Tally
+  after n f c = ifAccepted n (accepted T f c) T
 
-  stays : (n : ℕ) (c : Call) → 0 < n → after n c ≡ T
+  stays : (n : ℕ) (f : Free) (c : Call) → 0 < n → after n f c ≡ T
   unfolding ifAccepted
-  stays n c p = rw (ne-eqb n 0 (λ z. omega arith)) refl
+  stays n f c p = rw (ne-eqb n 0 (λ z. omega arith)) refl
 
-  either : (c : Call) → Kept (accepted T c) → Kept (after (refusalOf (T .own) c) c)
+  either : (f : Free) (c : Call) → Kept (accepted T f c) → Kept (after (refusalOf (T .own) f c) f c)
   unfolding ifAccepted
-  either c k = go (eqb (refusalOf (T .own) c) 0)
+  either f c k = go (eqb (refusalOf (T .own) f c) 0)
     where
-      go : (b : Bool) → Kept (cond b (accepted T c) T)
+      go : (b : Bool) → Kept (cond b (accepted T f c) T)
       go true = k
       go false = K
 
-  pub count-kept : (c : Call) → Kept (count T c)
-  unfolding count ifAccepted transport
-  count-kept (stepCall t) =
-      by-step (T .own) t (λ o. Kept (after (o .refusal) (stepCall t)))
-      (λ n p. subst Kept (sym (stays n (stepCall t) p)) K)
+  pub count-kept : (f : Free) (c : Call) → Kept (count T f c)
+  unfolding count ifAccepted
+  count-kept f (stepCall t) =
+      by-step (T .own) t (λ o. Kept (after (o .refusal) f (stepCall t)))
+      (λ n p. subst Kept (sym (stays n f (stepCall t) p)) K)
       (λ k c d l. step-kept t k c)
-  count-kept transportCall =
-      by-outcome (T .own) (T .own .boundaries) (λ o. Kept (after (o .refusal) transportCall))
-      (λ n p. subst Kept (sym (stays n transportCall p)) K)
-      (λ k f l. transporting-kept k)
-  count-kept (boundariesCall es) =
-      by-outcome (T .own) es (λ o. Kept (after (o .refusal) (boundariesCall es)))
-      (λ n p. subst Kept (sym (stays n (boundariesCall es) p)) K)
-      (λ k f l. setting-kept es k)
-  count-kept greatestCall = either greatestCall K
-  count-kept (writeCall room) = either (writeCall room) K
-  count-kept (openCall sheet) = either (openCall sheet) (start-kept sheet)
+  count-kept f transportCall =
+      by-transport (T .own) (λ o. Kept (after (o .refusal) f transportCall))
+      (λ n p. subst Kept (sym (stays n f transportCall p)) K)
+      (λ k l. transporting-kept k)
+  count-kept f (boundariesCall es) =
+      by-outcome (T .own) es (λ o. Kept (after (o .refusal) f (boundariesCall es)))
+      (λ n p. subst Kept (sym (stays n f (boundariesCall es) p)) K)
+      (λ k g l. setting-kept es k)
+  count-kept f greatestCall = either f greatestCall K
+  count-kept f (writeCall room) = either f (writeCall room) K
+  count-kept f (openCall sheet) = either f (openCall sheet) (start-kept sheet)
 
   -- ---- the tally's own record moves as the program's does
 
-  pub count-next : (c : Call) → count T c .own ≡ next (T .own) c
-  unfolding count ifAccepted transport countStep countTransport countSetting afterStep afterTransport start opening sheetRecord
-  count-next (stepCall t) =
-      by-step (T .own) t (λ o. after (o .refusal) (stepCall t) .own ≡ o .reach)
-      (λ n p. ap (λ (x : Tally). x .own) (stays n (stepCall t) p))
+  pub count-next : (f : Free) (c : Call) → count T f c .own ≡ next (T .own) f c
+  unfolding count ifAccepted countStep countTransport countSetting afterStep afterTransport holding start opening sheetRecord
+  count-next f (stepCall t) =
+      by-step (T .own) t (λ o. after (o .refusal) f (stepCall t) .own ≡ o .reach)
+      (λ n p. ap (λ (x : Tally). x .own) (stays n f (stepCall t) p))
       (λ k c d l. ap (withSums (afterStep (T .own) t)) (sym (sums-step k t)))
-  count-next transportCall =
-      by-outcome (T .own) (T .own .boundaries) (λ o. after (o .refusal) transportCall .own ≡ o .reach)
-      (λ n p. ap (λ (x : Tally). x .own) (stays n transportCall p))
-      (λ k f l. ap (withSums (afterTransport (T .own) (T .own .boundaries))) (sym (sums-mass k (T .own .boundaries))))
-  count-next (boundariesCall es) =
-      by-outcome (T .own) es (λ o. after (o .refusal) (boundariesCall es) .own ≡ o .reach)
-      (λ n p. ap (λ (x : Tally). x .own) (stays n (boundariesCall es) p))
-      (λ k f l. ap (withSums (afterTransport (T .own) es)) (sym (sums-mass k es)))
-  count-next greatestCall = go (eqb (greatest (T .own) .refusal) 0)
+  count-next f transportCall =
+      by-transport (T .own) (λ o. after (o .refusal) f transportCall .own ≡ o .reach)
+      (λ n p. ap (λ (x : Tally). x .own) (stays n f transportCall p))
+      (λ k l. ap (withSums (afterTransport (T .own))) (sym (sums-mass k)))
+  count-next f (boundariesCall es) =
+      by-outcome (T .own) es (λ o. after (o .refusal) f (boundariesCall es) .own ≡ o .reach)
+      (λ n p. ap (λ (x : Tally). x .own) (stays n f (boundariesCall es) p))
+      (λ k g l. ap (withSums (holding es (afterTransport (T .own)))) (sym (sums-mass k)))
+  count-next f greatestCall = go (eqb (greatest (T .own) .refusal) 0)
     where
       go : (b : Bool) → cond b T T .own ≡ T .own
       go true = refl
       go false = refl
-  count-next (writeCall room) = go (eqb (refusalOf (T .own) (writeCall room)) 0)
+  count-next f (writeCall room) = go (eqb (refusalOf (T .own) f (writeCall room)) 0)
     where
       go : (b : Bool) → cond b T T .own ≡ T .own
       go true = refl
       go false = refl
-  count-next (openCall sheet) =
-      by-opening sheet (T .own) (λ (x : Check). after (outcome x (T .own) (sheetRecord sheet) .refusal) (openCall sheet) .own ≡ outcome x (T .own) (sheetRecord sheet) .reach)
-      (λ n p. ap (λ (x : Tally). x .own) (stays n (openCall sheet) p))
+  count-next f (openCall sheet) =
+      by-opening sheet (T .own) (λ (x : Check). after (outcome x (T .own) (sheetRecord sheet) .refusal) f (openCall sheet) .own ≡ outcome x (T .own) (sheetRecord sheet) .reach)
+      (λ n p. ap (λ (x : Tally). x .own) (stays n f (openCall sheet) p))
       (λ e. refl)
 
-pub run-kept : (T : Tally) → Kept T → (cs : List Call) → Kept (run T cs)
+pub run-kept : (T : Tally) → Kept T → (es : List Entry) → Kept (run T es)
 unfolding run
 run-kept T K [] = K
-run-kept T K (c ∷ cs) = run-kept (count T c) (count-kept T K c) cs
+run-kept T K (e ∷ es) = run-kept (count T (e .free) (e .call)) (count-kept T K (e .free) (e .call)) es
 
-pub run-final : (T : Tally) → Kept T → (cs : List Call) → run T cs .own ≡ final (T .own) cs
+pub run-final : (T : Tally) → Kept T → (es : List Entry) → run T es .own ≡ final (T .own) es
 unfolding run final
 run-final T K [] = refl
-run-final T K (c ∷ cs) = run-final (count T c) (count-kept T K c) cs ∙ ap (λ (s : Reach). final s cs) (count-next T K c)
+run-final T K (e ∷ es) =
+    run-final (count T (e .free) (e .call)) (count-kept T K (e .free) (e .call)) es
+    ∙ ap (λ (s : Reach). final s es) (count-next T K (e .free) (e .call))
 
 -- ---- of a whole list
 
@@ -263,7 +266,7 @@ opened-own sheet l e =
     e
 
 pub of-definitions : OfDefinitions
-of-definitions sheet l cs e =
-    subst (Holds (run (start sheet) cs))
-    (run-final (start sheet) (start-kept sheet) cs ∙ ap (λ (s : Reach). final s cs) (sym (opened-own sheet l e)))
-    (run-kept (start sheet) (start-kept sheet) cs .holds)
+of-definitions sheet l es e =
+    subst (Holds (run (start sheet) es))
+    (run-final (start sheet) (start-kept sheet) es ∙ ap (λ (s : Reach). final s es) (sym (opened-own sheet l e)))
+    (run-kept (start sheet) (start-kept sheet) es .holds)

@@ -4,14 +4,14 @@ use mathlib.Core.Path.{_≡_}
 use mathlib.Core.Bool.{true}
 use mathlib.Core.List.{List, [], _∷_}
 use Prim.Native.Nat.{ℕ, _+_, _<_}
-use lib.IntN.{pos}
+use lib.IntN.{ℤ, pos}
 use lib.Signed.{leZ}
 use Rattle.reach.specs.Reach.{Reach, cells}
-use Rattle.reach.specs.Balance.{waterHeld, waterIn, waterOut, massHeld, massIn, massOut, CellsWithin, BoundariesWithin}
+use Rattle.reach.specs.Balance.{waterHeld, waterIn, waterOut, massHeld, massIn, massOut, everywhere, CellsWithin, BoundariesWithin}
 use Rattle.reach.specs.declared.boundary.Boundary.{Boundary}
 use Rattle.water.specs.Water.{newDepth}
 use Rattle.sheet.specs.Opening.{opening}
-use Rattle.tally.specs.Call.{Call, final}
+use Rattle.tally.specs.Call.{Entry, final}
 use Rattle.tally.specs.Tally.{AcceptedStep, Tally, start, run}
 
 -- P of each of a list
@@ -28,23 +28,26 @@ unfoldable pub Accounts : (held opened gained lost : ℕ) → Type 0
 Accounts held opened gained lost = held + lost ≡ opened + gained
 
 pub record Holds (T : Tally) (s : Reach) : Type 0 where
-  -- the record is the tally's own, so the tally's steps and settlings are those of the program
+  -- the record is the tally's own, so the tally's steps and transports are those of the program
   pub own : s ≡ T .own
   -- 'the water held equals the opening water plus what the ends let in less what they let out, added up from the steps themselves'
   pub water : Accounts (waterHeld s) (waterHeld (T .initial)) (waterIn (T .sums)) (waterOut (T .sums))
   -- 'and the nutrient likewise from the settlings'
   pub mass : Accounts (massHeld s) (massHeld (T .initial)) (massIn (T .sums)) (massOut (T .sums))
   -- 'the book's totals equal those sums', total for total
-  pub ledger : s .ledger ≡ T .sums
+  pub ledger : s .held .ledger ≡ T .sums
   -- 'no depth is below zero', in any accepted step of the list
   pub depths : Each DepthsFromZero (T .steps)
   -- 'any two whole numbers that bound the concentration of every opening cell and of every end but a wall held or set since still bound
   -- each cell, measured against the depth at its last settling, with nothing allowed for rounding'
-  pub bounds : (lo hi : ℕ) → CellsWithin lo hi (T .initial) → Each (BoundariesWithin lo hi) (T .held) → CellsWithin lo hi s
+  pub bounds : (lo hi : ℤ)
+      → CellsWithin (everywhere lo) (everywhere hi) (T .initial)
+      → Each (BoundariesWithin (everywhere lo) (everywhere hi) (cells (T .initial))) (T .held)
+      → CellsWithin (everywhere lo) (everywhere hi) s
 
 -- of the definitions: after every list of calls, of any length, from an accepted opening into whatever columns were lent
 abbrev pub OfDefinitions : Type 0
 OfDefinitions =
-    (sheet : List ℕ) (lent : Reach) (cs : List Call) →
+    (sheet : List ℕ) (lent : Reach) (es : List Entry) →
     opening sheet lent .refusal ≡ 0 →
-    Holds (run (start sheet) cs) (final (opening sheet lent .reach) cs)
+    Holds (run (start sheet) es) (final (opening sheet lent .reach) es)

@@ -1,5 +1,5 @@
 -- Document 01, 'The list of demand 3 and its tally': the tally, a machine of its own. It is fed the sheet and, call by call, which call it is
--- and its free arguments; it takes nothing from the columns, ends, ledger or answers of the program.
+-- and its free arguments; it takes nothing from the columns, boundaries, ledger or answers of the program.
 use mathlib.Core.Bool.{cond}
 use mathlib.Core.List.{List, [], _∷_}
 use Prim.Native.Nat.{ℕ, _+_, _-_, _*_}
@@ -7,15 +7,15 @@ use lib.Dec.{eqb}
 use lib.IntN.{ℤ, negℤ}
 use Rattle.numbers.specs.Signed.{positive}
 use Rattle.mass.specs.Transport.{leftShare, rightShare}
-use Rattle.reach.specs.Reach.{Reach, reachOf, cells, carriedAt, leftBoundary, rightBoundary}
+use Rattle.reach.specs.Reach.{Reach, reachOf, cells, carriedAt, leftBoundary, rightBoundary, withLedger}
 use Rattle.reach.specs.declared.boundary.Boundary.{Boundary}
 use Rattle.reach.specs.declared.ledger.Ledger.{Ledger}
-use Rattle.transport.specs.Calls.{massColumnsOf, afterTransport}
+use Rattle.transport.specs.Calls.{massColumnsOf, afterTransport, holding}
 use Rattle.water.specs.Water.{netAt}
-use Rattle.stepping.specs.Step.{keepsSums, afterStep}
+use Rattle.update.specs.Step.{keepsSums, afterStep}
 use Rattle.sheet.specs.Header.{boundariesOf}
 use Rattle.sheet.specs.Opening.{sheetRecord}
-use Rattle.tally.specs.Call.{Call, stepCall, transportCall, boundariesCall, greatestCall, writeCall, openCall, refusalOf}
+use Rattle.tally.specs.Call.{Free, Call, Entry, stepCall, transportCall, boundariesCall, greatestCall, writeCall, openCall, refusalOf}
 
 -- an accepted step: the record that it was given, and its t
 pub record AcceptedStep : Type 0 where
@@ -27,9 +27,9 @@ pub record Tally : Type 0 where
   pub initial : Reach
   -- the tally's own record, by now
   pub own : Reach
-  -- the sums, which serve as its book
+  -- the sums, which serve as its ledger
   pub sums : Ledger
-  -- the pairs of ends held or set since: that of the sheet and of every accepted end setting
+  -- the pairs of boundaries held or set since: that of the sheet and of every accepted setting
   pub held : List (List Boundary)
   -- the accepted steps of the list
   pub steps : List AcceptedStep
@@ -54,33 +54,33 @@ addWater first last k = record {
   };
 }
 
--- settling, with the c and ends held before it: left nutrient in gains max(c(0),0) times the left concentration, left nutrient out the first
--- cell's left share; right nutrient in gains max(−c(n),0) times the right concentration, right nutrient out the last cell's right share
+-- transport, with the c and boundaries held before it: left mass in gains max(c(0),0) times the left concentration, left mass out the first
+-- cell's left share; right mass in gains max(−c(n),0) times the right concentration, right mass out the last cell's right share
 unfoldable pub addMass : Reach → Ledger → Ledger
 addMass s k = record {
   left = record {
     «water_in» = k .left .«water_in»;
     «water_out» = k .left .«water_out»;
-    «mass_in» = k .left .«mass_in» + positive (carriedAt s 0) * leftBoundary (s .boundaries) .concentration;
+    «mass_in» = k .left .«mass_in» + positive (carriedAt s 0) * leftBoundary (s .held .boundaries) .concentration;
     «mass_out» = k .left .«mass_out» + leftShare (massColumnsOf s) 0;
   };
   right = record {
     «water_in» = k .right .«water_in»;
     «water_out» = k .right .«water_out»;
-    «mass_in» = k .right .«mass_in» + positive (negℤ (carriedAt s (cells s))) * rightBoundary (s .boundaries) .concentration;
+    «mass_in» = k .right .«mass_in» + positive (negℤ (carriedAt s (cells s))) * rightBoundary (s .held .boundaries) .concentration;
     «mass_out» = k .right .«mass_out» + rightShare (massColumnsOf s) (cells s - 1);
   };
 }
 
--- a step settles first where the sums of carried water are not kept
+-- a step transports first where the sums of carried water are not kept
 unfoldable pub addStep : Reach → (t : ℕ) → Ledger → Ledger
 addStep s t k = addWater (netAt s t 0) (netAt s t (cells s)) (cond (keepsSums s t) k (addMass s k))
 
 -- ---- the machine
 
--- the record with the sums for its book
+-- the record with the sums for its ledger
 abbrev pub withSums : Reach → Ledger → Reach
-withSums s k = reachOf (s .bed) (s .depth) (s .discharge) (s .mass) (s .base) (s .carried) (s .cellLength) (s .boundaries) k
+withSums s k = reachOf (s .bed) (s .depth) (s .discharge) (s .mass) (s .base) (s .carried) (s .cellLength) (withLedger k (s .held))
 
 -- sums start at 0
 abbrev pub noSums : Ledger
@@ -114,7 +114,7 @@ unfoldable pub countTransport : Tally → Tally
 countTransport T =
     let k = addMass (T .own) (T .sums) in record {
       initial = T .initial;
-      own = withSums (afterTransport (T .own) (T .own .boundaries)) k;
+      own = withSums (afterTransport (T .own)) k;
       sums = k;
       held = T .held;
       steps = T .steps;
@@ -124,29 +124,29 @@ unfoldable pub countSetting : Tally → List Boundary → Tally
 countSetting T es =
     let k = addMass (T .own) (T .sums) in record {
       initial = T .initial;
-      own = withSums (afterTransport (T .own) es) k;
+      own = withSums (holding es (afterTransport (T .own))) k;
       sums = k;
       held = es ∷ T .held;
       steps = T .steps;
     }
 
 -- what an accepted call makes of the tally; a greatest-step call and a write change nothing, an accepted opening starts another list
-abbrev pub accepted : Tally → Call → Tally
-accepted T (stepCall t) = countStep T t
-accepted T transportCall = countTransport T
-accepted T (boundariesCall es) = countSetting T es
-accepted T greatestCall = T
-accepted T (writeCall room) = T
-accepted T (openCall sheet) = start sheet
+abbrev pub accepted : Tally → Free → Call → Tally
+accepted T f (stepCall t) = countStep T t
+accepted T f transportCall = countTransport T
+accepted T f (boundariesCall es) = countSetting T es
+accepted T f greatestCall = T
+accepted T f (writeCall room) = T
+accepted T f (openCall sheet) = start sheet
 
 -- a refused call changes nothing
 unfoldable pub ifAccepted : (refusal : ℕ) → (accepted T : Tally) → Tally
 ifAccepted n U T = cond (eqb n 0) U T
 
 -- it reads each call's grounds for refusal on its own record
-unfoldable pub count : Tally → Call → Tally
-count T c = ifAccepted (refusalOf (T .own) c) (accepted T c) T
+unfoldable pub count : Tally → Free → Call → Tally
+count T f c = ifAccepted (refusalOf (T .own) f c) (accepted T f c) T
 
-unfoldable pub run : Tally → List Call → Tally
+unfoldable pub run : Tally → List Entry → Tally
 run T [] = T
-run T (c ∷ cs) = run (count T c) cs
+run T (e ∷ es) = run (count T (e .free) (e .call)) es

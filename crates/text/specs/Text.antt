@@ -1,4 +1,4 @@
--- Numbers as text, in bytes, and text put into a buffer.
+-- Not the paper's: numbers as text, in bytes, and text put into a buffer. Whoever takes the names at their word may skip this file.
 use mathlib.Core.Path.{_≡_}
 use mathlib.Core.List.{List, [], _∷_}
 use Prim.Native.Nat.{ℕ, suc, _+_, _-_, _/_, _%_, _^_, _≤_, _<_}

@@ -2,35 +2,42 @@
 -- that an accepted call leaves a sound record. Assumes nothing.
 use mathlib.Core.Path.{_≡_, refl, sym, ap, _∙_, subst}
 use mathlib.Core.Bool.{Bool, true, false}
-use mathlib.Core.List.{List, [], _∷_}
+use mathlib.Core.Logic.{⊎-elim}
+use mathlib.Core.List.{List}
 use Prim.Native.Nat.{ℕ, zero, suc, _+_, _-_, _*_, _≤_, _<_}
-use native.Mathlib.Nat.{mul-le-mul, mul-le-mul-left}
+use native.Mathlib.Nat.{mul-le-mul, mul-le-mul-left, eq-or-lt-of-le}
+use native.Mathlib.Numerals.{add-one}
 use native.Mathlib.Omega.{arith}
 use borrow.Author.Tests.{eqb-true, eqb-false}
 use lib.Dec.{eqb}
-use lib.IntN.{ℤ, pos, negℤ, natAbs}
-use lib.ListN.{length, getD, replicate, getD-replicate, length-replicate}
+use lib.IntN.{ℤ, pos, _+ℤ_, _*ℤ_, negℤ, natAbs}
+use lib.Signed.{_≤ℤ_}
+use lib.ListN.{length, getD-replicate, length-replicate}
 use Rattle.numbers.specs.Signed.{positive}
 use Rattle.numbers.proofs.IndexLaws.{all-of, getD-tabulate, length-tabulate}
-use Rattle.numbers.proofs.SignedLaws.{abs-parts}
+use Rattle.numbers.proofs.SignedLaws.{abs-parts, pos-le, le-pos, pos-below, lower-bound, upper-bound, sum-lower, sum-upper, times-sum}
 use Rattle.flux.specs.Limits.{depthMost, concentrationMost}
-use Rattle.mass.specs.Transport.{MassColumns, massColumns, outRight, outLeft, rightwards, leftwards, movedCell, movedMass}
-use Rattle.mass.specs.Ranges.{ReadyAt, Ready, massMost}
-use Rattle.mass.proofs.TransportLaws.{conserved, moved-lo, moved-hi, inLeft, inRight, leftwards-small, rightwards-small, leftwards-end}
+use Rattle.mass.specs.Transport.{massColumns, rightwards, leftwards, movedCell}
+use Rattle.mass.specs.Ranges.{Ready, massMost}
+use Rattle.mass.proofs.TransportLaws.{waterRightwards, waterLeftwards, waterStayed, conserved, moved-all, moved-lo, moved-hi, leftwards-small, rightwards-small, leftwards-end}
 use Rattle.reach.specs.Limits.{wall}
-use Rattle.reach.specs.Reach.{Reach, cells, depthAt, baseAt, massAt, carriedAt, leftBoundary, rightBoundary}
+use Rattle.reach.specs.Reach.{Reach, reachOf, cells, depthAt, baseAt, massAt, carriedAt, leftBoundary, rightBoundary}
 use Rattle.reach.specs.Grounds.{firstRefusal, recordGrounds, boundariesFit, ledgerFits, passOr}
 use Rattle.reach.specs.Outcome.{Outcome, outcome}
-use Rattle.reach.specs.Balance.{massHeld, massIn, massOut, MassBalanced, CellsWithin, BoundaryWithin, BoundariesWithin}
+use Rattle.reach.specs.Parts.{outflow}
+use Rattle.reach.specs.Balance.{massHeld, massIn, massOut, MassBalanced, everywhere, CellsWithin, BoundaryWithin, BoundariesWithin}
 use Rattle.reach.specs.declared.boundary.Boundary.{Boundary}
 use Rattle.reach.specs.declared.ledger.Ledger.{Ledger}
 use Rattle.reach.specs.declared.refusal.Check.{Check}
 use Rattle.reach.specs.declared.refusal.Check.the-variants.{Pass, Refused}
 use Rattle.reach.proofs.GroundsLaws.{further, no-further, last-one, numbered, refused-number}
-use Rattle.reach.proofs.Sound.{Sound, CellSound, CarriedSound, sound, given-fits, stands, boundary-sound}
-use Rattle.transport.specs.Calls.{enteringLeft, enteringRight, massColumnsOf, withMass, ledgerWith, transportLedger, afterTransport, transportGrounds, setBoundaries, pickEntered}
+use Rattle.reach.proofs.PartsLaws.{outflow-is}
+use Rattle.reach.proofs.Sound.{Sound, CarriedSound, none-carried, sound, given-fits, stands, boundary-sound}
+use Rattle.transport.specs.Calls.{enteringLeft, enteringRight, massColumnsOf, withMass, ledgerWith, transportLedger, afterTransport, transportGrounds, transport, holding, setBoundaries, CameTo}
 use Rattle.transport.specs.Ranges.{massColumnsWith, BoundaryMassOf, Small}
+use Rattle.transport.specs.Calls.{pickEntered}
 use Rattle.transport.specs.declared.Entered.{Entered}
+use Rattle.transport.specs.declared.TransportAnswer.{TransportAnswer}
 
 -- ---- what a sound record owes the functions
 
@@ -73,10 +80,10 @@ module _ (s : Reach) (k : Sound s) where
   }
 
   -- the columns with the concentrations, as the code has them
-  pub columns-with : massColumnsWith (s .mass) (s .base) (s .carried) (s .boundaries) ≡ massColumnsOf s
+  pub columns-with : massColumnsWith (s .mass) (s .base) (s .carried) (s .held .boundaries) ≡ massColumnsOf s
   unfolding enteringLeft enteringRight
   columns-with =
-      ap (λ (n : ℕ). massColumns (s .mass) (s .base) (s .carried) (positive (carriedAt s 0) * leftBoundary (s .boundaries) .concentration) (positive (negℤ (carriedAt s n)) * rightBoundary (s .boundaries) .concentration))
+      ap (λ (n : ℕ). massColumns (s .mass) (s .base) (s .carried) (positive (carriedAt s 0) * leftBoundary (s .held .boundaries) .concentration) (positive (negℤ (carriedAt s n)) * rightBoundary (s .held .boundaries) .concentration))
       (k .masses)
 
   pub small : (a b c d : ℕ) → BoundaryMassOf (massColumnsOf s) a b c d → Small a b c d
@@ -88,7 +95,7 @@ module _ (s : Reach) (k : Sound s) where
         right-out = omega (arith, x .right-out, rightwards-small (massColumnsOf s) ready n (omega arith));
       }
 
-  pub ledger-is : (a b c d : ℕ) → BoundaryMassOf (massColumnsOf s) a b c d → ledgerWith (s .ledger) a b c d ≡ transportLedger s
+  pub ledger-is : (a b c d : ℕ) → BoundaryMassOf (massColumnsOf s) a b c d → ledgerWith (s .held .ledger) a b c d ≡ transportLedger s
   unfolding transportLedger
   ledger-is a b c d x = rw (x .left-in, x .left-out, x .right-in, x .right-out, k .masses) refl
 
@@ -101,7 +108,7 @@ all-numbered s es = refl
 module _ (s : Reach) (es : List Boundary) where
   pub stopped : (n : ℕ) → firstRefusal (recordGrounds s es) ≡ Refused n → setBoundaries s es ≡ record { refusal = n; reach = s }
   unfolding setBoundaries
-  stopped n e = ap (λ (k : Check). outcome k s (afterTransport s es)) (no-further (recordGrounds s es) _ n e)
+  stopped n e = ap (λ (k : Check). outcome k s (holding es (afterTransport s))) (no-further (recordGrounds s es) _ n e)
 
   module _ (e : firstRefusal (recordGrounds s es) ≡ Pass) where
     at-last : (t : Bool) → ledgerFits (transportLedger s) ≡ t → firstRefusal (transportGrounds s es) ≡ passOr 13 t
@@ -109,16 +116,16 @@ module _ (s : Reach) (es : List Boundary) where
 
     pub full : ledgerFits (transportLedger s) ≡ false → setBoundaries s es ≡ record { refusal = 13; reach = s }
     unfolding setBoundaries
-    full f = ap (λ (k : Check). outcome k s (afterTransport s es)) (at-last false f)
+    full f = ap (λ (k : Check). outcome k s (holding es (afterTransport s))) (at-last false f)
 
-    pub accepted : ledgerFits (transportLedger s) ≡ true → setBoundaries s es ≡ record { refusal = 0; reach = afterTransport s es }
+    pub accepted : ledgerFits (transportLedger s) ≡ true → setBoundaries s es ≡ record { refusal = 0; reach = holding es (afterTransport s) }
     unfolding setBoundaries
-    accepted f = ap (λ (k : Check). outcome k s (afterTransport s es)) (at-last true f)
+    accepted f = ap (λ (k : Check). outcome k s (holding es (afterTransport s))) (at-last true f)
 
   -- every statement about the outcome, by the three ways it can go
   pub by-outcome : (P : Outcome → Type 0)
       → ((n : ℕ) → 0 < n → P (record { refusal = n; reach = s }))
-      → (Sound s → boundariesFit es ≡ true → ledgerFits (transportLedger s) ≡ true → P (record { refusal = 0; reach = afterTransport s es }))
+      → (Sound s → boundariesFit es ≡ true → ledgerFits (transportLedger s) ≡ true → P (record { refusal = 0; reach = holding es (afterTransport s) }))
       → P (setBoundaries s es)
   by-outcome P stays moves = go (firstRefusal (recordGrounds s es)) refl (ledgerFits (transportLedger s)) refl
     where
@@ -138,15 +145,15 @@ entered-accepted false k e x p q = (cc, cc)
 
 -- ---- mass
 
-module _ (s : Reach) (k : Sound s) (es : List Boundary) where
-  covered : (i : ℕ) → i < length (s .mass) → outRight (massColumnsOf s) i + outLeft (massColumnsOf s) i ≤ baseAt s i
+module _ (s : Reach) (k : Sound s) where
+  covered : (i : ℕ) → i < length (s .mass) → outflow (carriedAt s i) (carriedAt s (i + 1)) ≤ baseAt s i
   covered i l = ready s k .each i .giving l .covered
 
   first-in : rightwards (massColumnsOf s) 0 ≡ enteringLeft s
   unfolding rightwards
   first-in = refl
 
-  pub transport-balanced : MassBalanced s (afterTransport s es)
+  pub transport-balanced : MassBalanced s (afterTransport s)
   unfolding MassBalanced massHeld massIn massOut afterTransport transportLedger ledgerWith withMass
   transport-balanced =
       let x = massColumnsOf s in
@@ -154,9 +161,23 @@ module _ (s : Reach) (k : Sound s) (es : List Boundary) where
       let l = leftwards-end x (length (s .mass)) (omega arith) in
       omega (arith, first-in, conserved x covered)
 
+  -- what is measured of a cell afterwards is its new mass against its depth
+  moved-at : (i : ℕ) → i < cells s → massAt (afterTransport s) i ≡ movedCell (massColumnsOf s) i
+  unfolding afterTransport
+  moved-at i l = getD-tabulate (length (s .mass)) (movedCell (massColumnsOf s)) i 0 (omega (arith, k .masses))
+
+  pub base-at : (i : ℕ) → baseAt (afterTransport s) i ≡ depthAt s i
+  unfolding afterTransport
+  base-at i = refl
+
+  -- a cell that gave all its water holds what came from both sides
+  pub emptied-at : (i : ℕ) → i < cells s → outflow (carriedAt s i) (carriedAt s (i + 1)) ≡ baseAt s i
+      → massAt (afterTransport s) i ≡ rightwards (massColumnsOf s) i + leftwards (massColumnsOf s) (i + 1)
+  emptied-at i l e = moved-at i l ∙ moved-all (massColumnsOf s) concentrationMost i (k .cell i l .mass) e
+
   -- ---- bounds
 
-  -- what enters keeps the bounds of its boundary; over a wall nothing does
+  -- over a wall nothing comes; another boundary's concentration is bounded
   not-wall : (e : Boundary) (c : ℕ) {P : Type 0} → (e .kind ≡ wall → c ≡ 0) → (c ≡ 0 → P) → ((e .kind ≡ wall → ⊥) → P) → P
   not-wall e c {P} shut f g = go (eqb (e .kind) wall) refl
     where
@@ -164,89 +185,124 @@ module _ (s : Reach) (k : Sound s) (es : List Boundary) where
       go true p = f (shut (eqb-true (e .kind) wall p))
       go false p = g (eqb-false (e .kind) wall p)
 
-  enters-lo : (lo hi : ℕ) (e : Boundary) (c : ℕ) → BoundaryWithin lo hi e → (e .kind ≡ wall → c ≡ 0) → lo * c ≤ c * e .concentration
-  enters-lo lo hi e c w shut =
-      not-wall e c shut
-      (λ z. rw z (omega arith))
-      (λ n. omega (arith, mul-le-mul-left c (w .above n)))
+  module _ (lo hi : ℤ) (e : Boundary) (c : ℕ) (w : BoundaryWithin lo hi e) (shut : e .kind ≡ wall → c ≡ 0) where
+    enters-lo : positive lo * c ≤ c * e .concentration
+    enters-lo = not-wall e c shut (λ z. rw z (omega arith)) (λ n. omega (arith, mul-le-mul-left c (le-pos lo _ (w .above n))))
 
-  enters-hi : (lo hi : ℕ) (e : Boundary) (c : ℕ) → BoundaryWithin lo hi e → (e .kind ≡ wall → c ≡ 0) → c * e .concentration ≤ hi * c
-  enters-hi lo hi e c w shut =
-      not-wall e c shut
-      (λ z. rw z (omega arith))
-      (λ n. omega (arith, mul-le-mul-left c (w .below n)))
+    enters-hi : (c * e .concentration ≤ positive hi * c) × (positive (negℤ hi) * c ≡ 0)
+    enters-hi =
+        not-wall e c shut
+        (λ z. rw z (omega arith, omega arith))
+        (λ n. let u = pos-below _ hi (w .below n) in (omega (arith, mul-le-mul-left c (u .0)), rw (u .1) (omega arith)))
 
-  shut-left : leftBoundary (s .boundaries) .kind ≡ wall → positive (carriedAt s 0) ≡ 0
+  shut-left : leftBoundary (s .held .boundaries) .kind ≡ wall → positive (carriedAt s 0) ≡ 0
   shut-left w = ap positive (k .shutLeft w)
 
-  shut-right : rightBoundary (s .boundaries) .kind ≡ wall → positive (negℤ (carriedAt s (cells s))) ≡ 0
+  shut-right : rightBoundary (s .held .boundaries) .kind ≡ wall → positive (negℤ (carriedAt s (cells s))) ≡ 0
   shut-right w = ap (λ (z : ℤ). positive (negℤ z)) (k .shutRight w)
 
-  balance-at : (i : ℕ) → i < length (s .mass)
-      → depthAt s i + (outRight (massColumnsOf s) i + outLeft (massColumnsOf s) i) ≡ baseAt s i + inLeft (massColumnsOf s) i + inRight (massColumnsOf s) i
-  balance-at i l = omega (arith, k .water i (inside s k i l) .balance)
+  -- the water of a cell afterwards, its new base, is what came over its left, what stayed, and what came over its right
+  water-at : (i : ℕ) → i < cells s
+      → waterRightwards (massColumnsOf s) i + waterStayed (massColumnsOf s) i + waterLeftwards (massColumnsOf s) (i + 1) ≡ depthAt s i
+  water-at i l = let w = k .water i l in omega (arith, w .balance, w .covered)
 
-  -- what is measured of a cell afterwards is its new mass against its depth
-  moved-at : (i : ℕ) → i < cells s → massAt (afterTransport s es) i ≡ movedCell (massColumnsOf s) i
-  unfolding afterTransport movedMass
-  moved-at i l = getD-tabulate (length (s .mass)) (movedCell (massColumnsOf s)) i 0 (omega (arith, k .masses))
+  -- numbers by place, each times the water that comes from there
+  abbrev pub weighed : (ℕ → ℤ) → ℕ → ℤ
+  weighed z i =
+      let x = massColumnsOf s in
+      z i *ℤ pos (waterRightwards x i) +ℤ z (i + 1) *ℤ pos (waterStayed x i) +ℤ z (i + 2) *ℤ pos (waterLeftwards x (i + 1))
 
-  moved-long : length (movedMass (massColumnsOf s)) ≡ cells s
-  unfolding movedMass
-  moved-long = length-tabulate (length (s .mass)) (movedCell (massColumnsOf s)) ∙ k .masses
+  -- the law by place: the mass of a cell after a transport lies within the bounds of the water that it then has
+  module _ (lo hi : ℕ → ℤ) (w : CellsWithin lo hi s) (e : BoundariesWithin lo hi (cells s) (s .held .boundaries)) where
+    pub transport-above : (i : ℕ) → i < cells s → weighed lo i ≤ℤ pos (massAt (afterTransport s) i)
+    unfolding enteringLeft enteringRight
+    transport-above i l =
+        rw (moved-at i l)
+        (sum-lower (lo i) (lo (i + 1)) (lo (i + 2)) _ _ _ _
+        (moved-lo (massColumnsOf s) covered (λ p. positive (lo p))
+        (λ j h. lower-bound (lo (j + 1)) (baseAt s j) (massAt s j) (w .above j (inside s k j h)))
+        (enters-lo (lo 0) (hi 0) _ _ (e .left) shut-left)
+        (rw (k .masses) (enters-lo (lo (cells s + 1)) (hi (cells s + 1)) _ _ (e .right) shut-right))
+        i (omega (arith, k .masses))))
 
-  cells-same : cells (afterTransport s es) ≡ cells s
+    -- a place whose upper bound is below 0 gives no water: a cell there has none, and another boundary than a wall is not bounded
+    upper-at : (i : ℕ) → i < cells s → (massAt s i ≤ positive (hi (i + 1)) * baseAt s i) × (positive (negℤ (hi (i + 1))) * baseAt s i ≡ 0)
+    upper-at i l = upper-bound (hi (i + 1)) (baseAt s i) (massAt s i) (w .below i l)
+
+    none-of : (i : ℕ) → i < cells s → (c : ℕ) → c ≤ baseAt s i → positive (negℤ (hi (i + 1))) * c ≡ 0
+    none-of i l c h = omega (arith, upper-at i l .1, mul-le-mul-left (positive (negℤ (hi (i + 1)))) h)
+
+    gone : (i : ℕ) → i < cells s → (positive (carriedAt s (i + 1)) ≤ baseAt s i) × (positive (negℤ (carriedAt s i)) ≤ baseAt s i)
+    gone i l = let c = k .water i l .covered in let o = outflow-is (carriedAt s i) (carriedAt s (i + 1)) in (omega arith, omega arith)
+
+    none-rightwards : (i : ℕ) → i ≤ cells s → positive (negℤ (hi i)) * positive (carriedAt s i) ≡ 0
+    none-rightwards zero l = enters-hi (lo 0) (hi 0) _ _ (e .left) shut-left .1
+    none-rightwards (suc i) l = rw (← add-one i) (none-of i l _ (gone i l .0))
+
+    none-leftwards : (i : ℕ) → i ≤ cells s → positive (negℤ (hi (i + 1))) * positive (negℤ (carriedAt s i)) ≡ 0
+    none-leftwards i l =
+        ⊎-elim
+        (λ q. rw q (enters-hi (lo (cells s + 1)) (hi (cells s + 1)) _ _ (e .right) shut-right .1))
+        (λ h. none-of i h _ (gone i h .1))
+        (eq-or-lt-of-le l)
+
+    pub transport-below : (i : ℕ) → i < cells s → pos (massAt (afterTransport s) i) ≤ℤ weighed hi i
+    unfolding enteringLeft enteringRight
+    transport-below i l =
+        let next : i + 1 + 1 ≡ i + 2 = omega arith in
+        rw (moved-at i l)
+        (sum-upper (hi i) (hi (i + 1)) (hi (i + 2)) _ _ _ _
+        (none-rightwards i (omega arith))
+        (none-of i l _ (omega arith))
+        (subst (λ (p : ℕ). positive (negℤ (hi p)) * positive (negℤ (carriedAt s (i + 1))) ≡ 0) next (none-leftwards (i + 1) (omega arith)))
+        (moved-hi (massColumnsOf s) covered (λ p. positive (hi p))
+        (λ j h. upper-at j (inside s k j h) .0)
+        (enters-hi (lo 0) (hi 0) _ _ (e .left) shut-left .0)
+        (rw (k .masses) (enters-hi (lo (cells s + 1)) (hi (cells s + 1)) _ _ (e .right) shut-right .0))
+        i (omega (arith, k .masses))))
+
+  cells-same : cells (afterTransport s) ≡ cells s
   unfolding afterTransport
   cells-same = refl
 
-  pub base-at : (i : ℕ) → baseAt (afterTransport s es) i ≡ depthAt s i
-  unfolding afterTransport
-  base-at i = refl
+  -- two numbers are an instance: what came and stayed is the new base
+  weighed-is : (z : ℤ) (i : ℕ) → i < cells s → weighed (everywhere z) i ≡ z *ℤ pos (baseAt (afterTransport s) i)
+  weighed-is z i l = times-sum z _ _ _ ∙ ap (λ (h : ℕ). z *ℤ pos h) (water-at i l ∙ sym (base-at i))
 
-  pub transport-within : (lo hi : ℕ) → CellsWithin lo hi s → BoundariesWithin lo hi (s .boundaries) → CellsWithin lo hi (afterTransport s es)
-  unfolding enteringLeft enteringRight
-  transport-within lo hi w e =
-      let x = massColumnsOf s in
-      let last = ap (λ (n : ℕ). positive (negℤ (carriedAt s n))) (k .masses) in record {
-        above = λ i l.
-            let j : i < length (s .mass) = omega (arith, k .masses, cells-same) in
-            rw (moved-at i (inside s k i j), base-at i)
-            (moved-lo x covered lo (λ a b. w .above a (inside s k a b))
-            (enters-lo lo hi (leftBoundary (s .boundaries)) (positive (carriedAt s 0)) (e .left) shut-left)
-            (rw last (enters-lo lo hi (rightBoundary (s .boundaries)) (positive (negℤ (carriedAt s (cells s)))) (e .right) shut-right))
-            i (depthAt s i) j (balance-at i j));
-        below = λ i l.
-            let j : i < length (s .mass) = omega (arith, k .masses, cells-same) in
-            rw (moved-at i (inside s k i j), base-at i)
-            (moved-hi x covered hi (λ a b. w .below a (inside s k a b))
-            (enters-hi lo hi (leftBoundary (s .boundaries)) (positive (carriedAt s 0)) (e .left) shut-left)
-            (rw last (enters-hi lo hi (rightBoundary (s .boundaries)) (positive (negℤ (carriedAt s (cells s)))) (e .right) shut-right))
-            i (depthAt s i) j (balance-at i j));
-      }
+  pub transport-within : (lo hi : ℤ) → CellsWithin (everywhere lo) (everywhere hi) s → BoundariesWithin (everywhere lo) (everywhere hi) (cells s) (s .held .boundaries)
+      → CellsWithin (everywhere lo) (everywhere hi) (afterTransport s)
+  transport-within lo hi w e = record {
+    above = λ i l. let j : i < cells s = omega (arith, cells-same) in subst (λ (z : ℤ). z ≤ℤ pos (massAt (afterTransport s) i)) (weighed-is lo i j) (transport-above (everywhere lo) (everywhere hi) w e i j);
+    below = λ i l. let j : i < cells s = omega (arith, cells-same) in subst (λ (z : ℤ). pos (massAt (afterTransport s) i) ≤ℤ z) (weighed-is hi i j) (transport-below (everywhere lo) (everywhere hi) w e i j);
+  }
 
   -- ---- an accepted call leaves a sound record
 
   -- every record's concentrations lie in 0..500,000
-  in-range : CellsWithin 0 concentrationMost s
-  in-range = record { above = λ i l. omega arith; below = λ i l. k .cell i l .mass }
+  in-range : CellsWithin (everywhere (pos 0)) (everywhere (pos concentrationMost)) s
+  in-range = record { above = λ i l. pos-le _ _ (omega arith); below = λ i l. pos-le _ _ (k .cell i l .mass) }
 
-  boundaries-in-range : BoundariesWithin 0 concentrationMost (s .boundaries)
+  boundaries-in-range : BoundariesWithin (everywhere (pos 0)) (everywhere (pos concentrationMost)) (cells s) (s .held .boundaries)
   boundaries-in-range = record {
-    left = record { above = λ n. omega arith; below = λ n. k .left .concentration };
-    right = record { above = λ n. omega arith; below = λ n. k .right .concentration };
+    left = record { above = λ n. pos-le _ _ (omega arith); below = λ n. pos-le _ _ (k .left .concentration) };
+    right = record { above = λ n. pos-le _ _ (omega arith); below = λ n. pos-le _ _ (k .right .concentration) };
   }
 
-  pub carried-zero : (i : ℕ) → i < length (s .carried) → carriedAt (afterTransport s es) i ≡ pos 0
+  moved-long : length (afterTransport s .mass) ≡ cells s
+  unfolding afterTransport
+  moved-long = length-tabulate (length (s .mass)) (movedCell (massColumnsOf s)) ∙ k .masses
+
+  pub carried-zero : (i : ℕ) → i < length (s .carried) → carriedAt (afterTransport s) i ≡ pos 0
   unfolding afterTransport
   carried-zero i l = getD-replicate (length (s .carried)) i (pos 0) (pos 0) l
 
   still : (h : ℕ) (l r : ℤ) → l ≡ pos 0 → r ≡ pos 0 → CarriedSound h h l r
-  still h l r p q = rw (p, q) (record { left = omega arith; right = omega arith; balance = omega arith; covered = omega arith })
+  still h l r p q = rw (p, q) (none-carried h)
 
-  pub transport-sound : boundariesFit es ≡ true → ledgerFits (transportLedger s) ≡ true → Sound (afterTransport s es)
-  unfolding afterTransport boundariesFit
-  transport-sound fits ledger =
-      let t = transport-within 0 concentrationMost in-range boundaries-in-range in
+  pub transport-sound : (es : List Boundary) → boundariesFit es ≡ true → ledgerFits (transportLedger s) ≡ true → Sound (holding es (afterTransport s))
+  unfolding afterTransport boundariesFit holding
+  transport-sound es fits ledger =
+      let t = transport-within (pos 0) (pos concentrationMost) in-range boundaries-in-range in
       let boundaries = all-of _ fits in record {
         some = k .some;
         few = k .few;
@@ -265,7 +321,7 @@ module _ (s : Reach) (k : Sound s) (es : List Boundary) where
           depth = k .cell i l .depth;
           discharge = k .cell i l .discharge;
           base = k .cell i l .depth;
-          mass = t .below i l;
+          mass = upper-bound (pos concentrationMost) (depthAt s i) _ (t .below i l) .0;
         };
         water = λ i l. still (depthAt s i) _ _ (carried-zero i (omega (arith, k .interfaces))) (carried-zero (i + 1) (omega (arith, k .interfaces)));
         shutLeft = λ w. carried-zero 0 (omega (arith, k .interfaces));
@@ -275,13 +331,44 @@ module _ (s : Reach) (k : Sound s) (es : List Boundary) where
 
 -- ---- the same of the call, accepted or refused
 
+-- a pair that is held from now on moves no mass
+holding-balanced : (s t : Reach) (es : List Boundary) → MassBalanced s t → MassBalanced s (holding es t)
+unfolding MassBalanced holding massHeld
+holding-balanced s t es b = b
+
+holding-within : (lo hi : ℕ → ℤ) (es : List Boundary) (t : Reach) → CellsWithin lo hi t → CellsWithin lo hi (holding es t)
+unfolding holding
+holding-within lo hi es t w = record { above = w .above; below = w .below }
+
+-- the pair that is held already changes nothing
+pub holding-held : (s : Reach) → holding (s .held .boundaries) (afterTransport s) ≡ afterTransport s
+unfolding holding afterTransport
+holding-held s = refl
+
+-- a transport is the setting of the pair that is held
+pub transport-is : (s : Reach) → transport s ≡ setBoundaries s (s .held .boundaries)
+unfolding transport setBoundaries holding afterTransport
+transport-is s = refl
+
 pub balanced : (s : Reach) (es : List Boundary) → MassBalanced s (setBoundaries s es .reach)
 unfolding MassBalanced
-balanced s es = by-outcome s es (λ o. MassBalanced s (o .reach)) (λ n p. omega arith) (λ k f l. transport-balanced s k es)
+balanced s es = by-outcome s es (λ o. MassBalanced s (o .reach)) (λ n p. omega arith) (λ k f l. holding-balanced s (afterTransport s) es (transport-balanced s k))
 
-pub within : (s : Reach) (es : List Boundary) (lo hi : ℕ) → CellsWithin lo hi s → BoundariesWithin lo hi (s .boundaries) → CellsWithin lo hi (setBoundaries s es .reach)
+pub within : (s : Reach) (es : List Boundary) (lo hi : ℤ) → CellsWithin (everywhere lo) (everywhere hi) s → BoundariesWithin (everywhere lo) (everywhere hi) (cells s) (s .held .boundaries)
+    → CellsWithin (everywhere lo) (everywhere hi) (setBoundaries s es .reach)
 within s es lo hi w e =
-    by-outcome s es (λ o. CellsWithin lo hi (o .reach)) (λ n p. w) (λ k f l. transport-within s k es lo hi w e)
+    by-outcome s es (λ o. CellsWithin (everywhere lo) (everywhere hi) (o .reach)) (λ n p. w)
+    (λ k f l. holding-within (everywhere lo) (everywhere hi) es (afterTransport s) (transport-within s k lo hi w e))
+
+-- every statement about a transport, by the two ways it can go
+pub by-transport : (s : Reach) (P : Outcome → Type 0)
+    → ((n : ℕ) → 0 < n → P (record { refusal = n; reach = s }))
+    → (Sound s → ledgerFits (transportLedger s) ≡ true → P (record { refusal = 0; reach = afterTransport s }))
+    → P (transport s)
+by-transport s P stays moves =
+    subst P (sym (transport-is s))
+    (by-outcome s (s .held .boundaries) P stays
+    (λ k f l. subst (λ (r : Reach). P (record { refusal = 0; reach = r })) (sym (holding-held s)) (moves k l)))
 
 -- an accepted call leaves a record that stands grounds 4 to 9 again, whatever pair it is given next
 pub stands-again : (s : Reach) (es gs : List Boundary) → setBoundaries s es .refusal ≡ 0 → boundariesFit gs ≡ true
@@ -289,5 +376,29 @@ pub stands-again : (s : Reach) (es gs : List Boundary) → setBoundaries s es .r
 stands-again s es gs e g =
     by-outcome s es (λ o. o .refusal ≡ 0 → firstRefusal (recordGrounds (o .reach) gs) ≡ Pass)
     (λ n p z. absurd (omega arith))
-    (λ k f l z. stands (afterTransport s es) gs (transport-sound s k es f l) g)
+    (λ k f l z. stands (holding es (afterTransport s)) gs (transport-sound s k es f l) g)
     e
+
+-- ---- what a call left in the columns, with what it handed back, is the record of the definition
+
+-- a transport leaves bed, depths, discharges and X
+kept-by-setting : (s : Reach) (es : List Boundary) →
+    let r = setBoundaries s es .reach in
+    reachOf (s .bed) (s .depth) (s .discharge) (r .mass) (r .base) (r .carried) (s .cellLength) (r .held) ≡ r
+unfolding afterTransport holding
+kept-by-setting s es =
+    by-outcome s es
+    (λ o. let r = o .reach in
+    reachOf (s .bed) (s .depth) (s .discharge) (r .mass) (r .base) (r .carried) (s .cellLength) (r .held) ≡ r)
+    (λ n p. refl)
+    (λ k g f. refl)
+
+pub left-by-setting : (s : Reach) (es : List Boundary) {r : TransportAnswer} {m b : List ℕ} {c : List ℤ} → CameTo (setBoundaries s es) r m b c
+    → reachOf (s .bed) (s .depth) (s .discharge) m b c (s .cellLength) (r .held) ≡ setBoundaries s es .reach
+left-by-setting s es k = rw (k .mass-is, k .base-is, k .carried-is, k .held-is) (kept-by-setting s es)
+
+pub left-by-transport : (s : Reach) {r : TransportAnswer} {m b : List ℕ} {c : List ℤ} → CameTo (transport s) r m b c
+    → reachOf (s .bed) (s .depth) (s .discharge) m b c (s .cellLength) (r .held) ≡ transport s .reach
+left-by-transport s {r} {m} {b} {c} k =
+    left-by-setting s (s .held .boundaries) (subst (λ (o : Outcome). CameTo o r m b c) (transport-is s) k)
+    ∙ ap (λ (o : Outcome). o .reach) (sym (transport-is s))

@@ -1,4 +1,4 @@
--- What the functions of this crate require, and what they give in several parts.
+-- Not the paper's: what the inner functions require and give. A reader of the model may skip this file.
 use mathlib.Core.Path.{_≡_}
 use mathlib.Core.List.{List}
 use Prim.Native.Nat.{ℕ, _*_, _≤_}
@@ -9,6 +9,8 @@ use Rattle.mass.specs.Transport.{MassColumns, massColumns, rightwards, leftward
 use Rattle.mass.specs.Ranges.{massMost}
 use Rattle.reach.specs.Reach.{leftBoundary, rightBoundary}
 use Rattle.reach.specs.declared.boundary.Boundary.{Boundary}
+use Rattle.reach.specs.declared.held.Held.{Held}
+use Rattle.transport.specs.declared.TransportAnswer.{TransportAnswer}
 
 -- columns with a pair of boundaries: what enters is the water that came in times the boundary's concentration
 abbrev pub massColumnsWith : List ℕ → List ℕ → List ℤ → List Boundary → MassColumns
@@ -30,3 +32,6 @@ pub record Small (leftIn leftOut rightIn rightOut : ℕ) : Type 0 where
   pub left-out : leftOut ≤ massMost
   pub right-in : rightIn ≤ massMost
   pub right-out : rightOut ≤ massMost
+
+abbrev pub answer : ℕ → Held → TransportAnswer
+answer n k = record { refusal = n; held = k }

@@ -4,13 +4,14 @@ ghost use mathlib.Core.Bool.{true};
 ghost use Prim.Native.Nat.{_+_, _≤_};
 ghost use lib.IntN.{pos};
 ghost use lib.ListN.{length, replicate};
-ghost use Rattle.mass.specs.Transport.{massColumns, movedMass};
-ghost use Rattle.mass.specs.Ranges.{Ready, massMost};
+ghost use Rattle.mass.specs.Transport.{massColumns};
+ghost use Rattle.mass.specs.Ranges.{Ready, massMost, movedMass};
 ghost use Rattle.reach.specs.Limits.{totalMost};
-ghost use Rattle.reach.specs.Reach.{reachOf};
+ghost use Rattle.reach.specs.Reach.{came};
 ghost use Rattle.reach.specs.Grounds.{ledgerFits, numberOf};
-ghost use Rattle.transport.specs.Calls.{withMass, ledgerWith, pickEntered, answer, setBoundaries, transport as transportOf, CameTo};
-ghost use Rattle.transport.specs.Ranges.{massColumnsWith, BoundaryMassOf, Small};
+ghost use Rattle.transport.specs.Calls.{withMass, ledgerWith, setBoundaries, transport as transportOf, CameTo};
+ghost use Rattle.transport.specs.Ranges.{massColumnsWith, BoundaryMassOf, Small, answer};
+ghost use Rattle.transport.specs.Calls.{pickEntered};
 use mass::leaving;
 use mass::move_mass;
 use numbers::columns::clear_column;
@@ -19,35 +20,27 @@ use numbers::signed::left_part;
 use numbers::signed::right_part;
 use reach::boundary::Boundary;
 use reach::check_record;
+use reach::held::Held;
 use reach::ledger::Ledger;
 use reach::ledger::Totals;
 use reach::ledger::ledger_fits;
 use reach::refusal::Check;
 
-// What a call on a record hands back: 0 or the number of its refusal, the boundaries held from now on, and the ledger.
+// What a transport or a setting of boundaries hands back: 0 or the number of its refusal, the boundaries held from now on, and the ledger.
 // A refused call hands the boundaries and the ledger back as they came.
 #[repr(C)]
 pub struct TransportAnswer {
     pub refusal: u32,
-    pub boundaries: [Boundary; 2],
-    pub ledger: Ledger,
+    pub held: Held,
 }
 
-fn refused(k: Check, boundaries: [Boundary; 2], ledger: Ledger) -> TransportAnswer
-    ensures { λ r. ⌜ r ≡ answer (numberOf k) boundaries ledger ⌝ }
+fn refused(k: Check, held: Held) -> TransportAnswer
+    ensures { λ r. ⌜ r ≡ answer (numberOf k) held ⌝ }
 {
     let Check::Refused(n) = k else {
-        return TransportAnswer {
-            refusal: 0,
-            boundaries,
-            ledger,
-        };
+        return TransportAnswer { refusal: 0, held };
     };
-    TransportAnswer {
-        refusal: n,
-        boundaries,
-        ledger,
-    }
+    TransportAnswer { refusal: n, held }
 }
 
 // The mass that crosses both boundaries
@@ -147,34 +140,20 @@ pub fn set_boundaries(
     base: &mut [u64],
     carried: &mut [i64],
     x: u64,
-    boundaries: [Boundary; 2],
-    ledger: Ledger,
+    held: Held,
     given: [Boundary; 2],
 ) -> TransportAnswer
-    ensures { λ r. ⌜ CameTo (setBoundaries (reachOf (now (bed .entry)) (now (depth .entry)) (now (discharge .entry)) (now (mass .entry)) (now (base .entry)) (now (carried .entry)) x boundaries ledger) given) r (now (mass .exit)) (now (base .exit)) (now (carried .exit)) ⌝ }
+    ensures { λ r. ⌜ CameTo (setBoundaries (came bed depth discharge mass base carried x held) given) r (now (mass .exit)) (now (base .exit)) (now (carried .exit)) ⌝ }
 {
-    let checked = check_record(
-        bed,
-        depth,
-        discharge,
-        mass,
-        base,
-        carried,
-        x,
-        boundaries,
-        ledger,
-        given,
-    );
+    let checked = check_record(bed, depth, discharge, mass, base, carried, x, held, given);
     let Check::Pass = checked else {
-        return refused(checked, boundaries, ledger);
+        return refused(checked, held);
     };
-    let crossed = boundary_mass_of(mass, base, carried, boundaries);
+    let old = held.boundaries;
+    let ledger = held.ledger;
+    let crossed = boundary_mass_of(mass, base, carried, old);
     let Entered::Accepted(next) = enter(ledger, crossed) else {
-        return TransportAnswer {
-            refusal: 13,
-            boundaries,
-            ledger,
-        };
+        return TransportAnswer { refusal: 13, held };
     };
     commit(
         depth,
@@ -184,10 +163,13 @@ pub fn set_boundaries(
         crossed.left_in,
         crossed.right_in,
     );
-    TransportAnswer {
-        refusal: 0,
+    let after = Held {
         boundaries: given,
         ledger: next,
+    };
+    TransportAnswer {
+        refusal: 0,
+        held: after,
     }
 }
 
@@ -200,21 +182,10 @@ pub fn transport(
     base: &mut [u64],
     carried: &mut [i64],
     x: u64,
-    boundaries: [Boundary; 2],
-    ledger: Ledger,
+    held: Held,
 ) -> TransportAnswer
-    ensures { λ r. ⌜ CameTo (transportOf (reachOf (now (bed .entry)) (now (depth .entry)) (now (discharge .entry)) (now (mass .entry)) (now (base .entry)) (now (carried .entry)) x boundaries ledger)) r (now (mass .exit)) (now (base .exit)) (now (carried .exit)) ⌝ }
+    ensures { λ r. ⌜ CameTo (transportOf (came bed depth discharge mass base carried x held)) r (now (mass .exit)) (now (base .exit)) (now (carried .exit)) ⌝ }
 {
-    set_boundaries(
-        bed,
-        depth,
-        discharge,
-        mass,
-        base,
-        carried,
-        x,
-        boundaries,
-        ledger,
-        boundaries,
-    )
+    let given = held.boundaries;
+    set_boundaries(bed, depth, discharge, mass, base, carried, x, held, given)
 }

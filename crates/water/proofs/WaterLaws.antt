@@ -14,7 +14,7 @@ use lib.Signed.{leZ, leZ-yes}
 use Rattle.numbers.specs.Index.{allBelow}
 use Rattle.numbers.specs.Signed.{positive}
 use Rattle.numbers.proofs.SearchLaws.{by-test, by-less}
-use Rattle.numbers.proofs.SignedLaws.{R, L, right-sub, left-sub, pos-cross, neg-cross, add-cross, minus-cross, from-cross, le-cross, leZ-no, one-part, parts, pos-sub, sub-add, sub-minus, sub-eq, sub-neg, abs-parts, abs-neg, abs-sub}
+use Rattle.numbers.proofs.SignedLaws.{R, L, right-sub, left-sub, pos-cross, neg-cross, add-cross, minus-cross, from-cross, le-cross, leZ-no, one-part, two-parts, pos-sub, sub-add, sub-minus, sub-eq, sub-neg, abs-parts, abs-neg, abs-sub}
 use Rattle.flux.specs.Wave.{waveSpeed}
 use Rattle.flux.specs.Velocity.{velocity}
 use Rattle.flux.specs.Crossing.{waterFlux, stillThrust}
@@ -26,6 +26,8 @@ use Rattle.flux.proofs.VelocityLaws.{velocity-most}
 use Rattle.flux.proofs.InterfaceLaws.{reduced-depth-le, net-water-is, wall-passes-nothing, cell-outflow-le-depth}
 use Rattle.reach.specs.Limits.{wall, openBoundary}
 use Rattle.reach.specs.declared.boundary.Boundary.{Boundary}
+use Rattle.reach.specs.declared.boundary.BoundaryPlace.{BoundaryPlace}
+use Rattle.reach.specs.declared.boundary.BoundaryPlace.the-variants.{Left, Right}
 use Rattle.reach.specs.Reach.{Reach, cells, bedAt, depthAt, dischargeAt, leftBoundary, rightBoundary}
 use Rattle.water.specs.Sides.{cellSide, boundarySide, leftSide, rightSide}
 use Rattle.water.specs.Water.{netAt, momentumAt, ownLeft, ownRight, newDepth, pushed, nearest, newDischarge}
@@ -94,18 +96,18 @@ new-depth-is s t i l x cfl =
     (sum-of-parts (depthAt s i) (rightward s t i) (leftward s t i) (rightward s t (suc i)) (leftward s t (suc i)) (outflow-covered s t i l x cfl))
 
 -- over a wall no water comes
-pub wall-left : (s : Reach) (t : ℕ) → 0 < cells s → leftBoundary (s .boundaries) .kind ≡ wall → netAt s t 0 ≡ pos 0
+pub wall-left : (s : Reach) (t : ℕ) → 0 < cells s → leftBoundary (s .held .boundaries) .kind ≡ wall → netAt s t 0 ≡ pos 0
 unfolding netAt leftSide boundarySide
 wall-left s t n w = rw (right-side-cell s 0 n, eq-eqb _ _ w) (wall-passes-nothing t (s .cellLength) (cellSide s 0) .1)
 
-last-wall : (s : Reach) (t i : ℕ) → cells s ≡ suc i → rightBoundary (s .boundaries) .kind ≡ wall → netWater t (s .cellLength) (leftSide s (suc i)) (rightSide s (suc i)) ≡ pos 0
+last-wall : (s : Reach) (t i : ℕ) → cells s ≡ suc i → rightBoundary (s .held .boundaries) .kind ≡ wall → netWater t (s .cellLength) (leftSide s (suc i)) (rightSide s (suc i)) ≡ pos 0
 unfolding leftSide rightSide boundarySide
 last-wall s t i e w =
     let n : cells s - 1 ≡ i = omega arith in
     let l : cells s ≤ suc i = omega arith in
-    rw (le-ltb (suc i) (cells s) l, eq-eqb (rightBoundary (s .boundaries) .kind) wall w, n) (wall-passes-nothing t (s .cellLength) (cellSide s i) .0)
+    rw (le-ltb (suc i) (cells s) l, eq-eqb (rightBoundary (s .held .boundaries) .kind) wall w, n) (wall-passes-nothing t (s .cellLength) (cellSide s i) .0)
 
-pub wall-right : (s : Reach) (t : ℕ) → 0 < cells s → rightBoundary (s .boundaries) .kind ≡ wall → netAt s t (cells s) ≡ pos 0
+pub wall-right : (s : Reach) (t : ℕ) → 0 < cells s → rightBoundary (s .held .boundaries) .kind ≡ wall → netAt s t (cells s) ≡ pos 0
 unfolding netAt
 wall-right s t n w = go (cells s) n refl
   where
@@ -213,23 +215,23 @@ nearest-parts most z =
 
     inside : R z + L (pos most) ≤ most + L z → R (negℤ (pos most)) + L z ≤ R z + L (negℤ (pos most)) → z ≡ subℕ (R z - (R z - most)) (L z - (L z - most))
     inside p q =
-        parts z
+        two-parts z
         ∙ sub-eq (R z) (L z) (R z - (R z - most)) (L z - (L z - most)) (⊎-elim (λ w. omega (arith, w, p, q, e, n, o)) (λ w. omega (arith, w, p, q, e, n, o)) (one-part z))
 
--- ---- an end beside the cell c, by its kind
+-- ---- a boundary beside the cell c, by its kind
 
-pub boundary-wall : (e : Boundary) (c : Side) → e .kind ≡ wall → boundarySide e c ≡ mirrored c
+pub boundary-wall : (p : BoundaryPlace) (e : Boundary) (c : Side) → e .kind ≡ wall → boundarySide p e c ≡ mirrored c
 unfolding boundarySide
-boundary-wall e c w = rw (eq-eqb _ _ w) refl
+boundary-wall p e c w = rw (eq-eqb _ _ w) refl
 
-pub boundary-open : (e : Boundary) (c : Side) → (e .kind ≡ wall → ⊥) → e .kind ≡ openBoundary → boundarySide e c ≡ c
+pub boundary-open : (p : BoundaryPlace) (e : Boundary) (c : Side) → (e .kind ≡ wall → ⊥) → e .kind ≡ openBoundary → boundarySide p e c ≡ c
 unfolding boundarySide
-boundary-open e c w o = rw (ne-eqb _ _ w, eq-eqb _ _ o) refl
+boundary-open p e c w o = rw (ne-eqb _ _ w, eq-eqb _ _ o) refl
 
-pub boundary-fed : (e : Boundary) (c : Side) → (e .kind ≡ wall → ⊥) → (e .kind ≡ openBoundary → ⊥)
-    → boundarySide e c ≡ record { bed = c .bed; depth = e .depth; velocity = velocity (e .depth) (e .discharge) }
+pub boundary-fed : (p : BoundaryPlace) (e : Boundary) (c : Side) → (e .kind ≡ wall → ⊥) → (e .kind ≡ openBoundary → ⊥)
+    → boundarySide p e c ≡ record { bed = c .bed; depth = e .depth; velocity = velocity (e .depth) (e .discharge) }
 unfolding boundarySide
-boundary-fed e c w o = rw (ne-eqb _ _ w, ne-eqb _ _ o) refl
+boundary-fed p e c w o = rw (ne-eqb _ _ w, ne-eqb _ _ o) refl
 
 -- ---- amounts of a crossing are small
 
@@ -269,12 +271,12 @@ left-side-next s i = rw (add-one i) (left-side-cell s i)
 
 -- the right side of the next interface: the next cell, or the right boundary beside this one
 pub right-side-next : (s : Reach) (i : ℕ) (c : Side) → i < cells s → c ≡ cellSide s i
-    → cond (ltb (i + 1) (cells s)) (cellSide s (i + 1)) (boundarySide (rightBoundary (s .boundaries)) c) ≡ rightSide s (i + 1)
+    → cond (ltb (i + 1) (cells s)) (cellSide s (i + 1)) (boundarySide Right (rightBoundary (s .held .boundaries)) c) ≡ rightSide s (i + 1)
 unfolding rightSide
 right-side-next s i c l e =
-    by-less (i + 1) (cells s) (λ b. cond b (cellSide s (i + 1)) (boundarySide (rightBoundary (s .boundaries)) c) ≡ cond b (cellSide s (i + 1)) (boundarySide (rightBoundary (s .boundaries)) (cellSide s (cells s - 1))))
+    by-less (i + 1) (cells s) (λ b. cond b (cellSide s (i + 1)) (boundarySide Right (rightBoundary (s .held .boundaries)) c) ≡ cond b (cellSide s (i + 1)) (boundarySide Right (rightBoundary (s .held .boundaries)) (cellSide s (cells s - 1))))
     (λ k. refl)
-    (λ k. let n : i ≡ cells s - 1 = omega arith in ap (boundarySide (rightBoundary (s .boundaries))) (e ∙ ap (cellSide s) n))
+    (λ k. let n : i ≡ cells s - 1 = omega arith in ap (boundarySide Right (rightBoundary (s .held .boundaries))) (e ∙ ap (cellSide s) n))
 
 module _ (s : Reach) (t : ℕ) where
   pub net-by-crossing : (i : ℕ) {a b p d e : ℕ} → ExchangeOf t (s .cellLength) (leftSide s i) (rightSide s i) a b p d e → netAt s t i ≡ subℕ a b
@@ -313,7 +315,7 @@ unfolding allBelow
 meets-more true f i = rw (add-one (i + 1)) refl
 meets-more false f i = refl
 
-pub right-side-end : (s : Reach) → rightSide s (cells s) ≡ boundarySide (rightBoundary (s .boundaries)) (cellSide s (cells s - 1))
+pub right-side-end : (s : Reach) → rightSide s (cells s) ≡ boundarySide Right (rightBoundary (s .held .boundaries)) (cellSide s (cells s - 1))
 unfolding rightSide
 right-side-end s = rw (le-ltb (cells s) (cells s) (omega arith)) refl
 
@@ -324,9 +326,9 @@ pub record SideFits (s : Side) : Type 0 where
   pub depth : s .depth ≤ depthMost
   pub velocity : natAbs (s .velocity) ≤ velocityMost
 
-boundary-side-fits : (e : Boundary) (c : Side) → (e .depth ≤ depthMost) × (natAbs (e .discharge) ≤ velocityMost * e .depth) → SideFits c → SideFits (boundarySide e c)
+pub boundary-side-fits : (p : BoundaryPlace) (e : Boundary) (c : Side) → (e .depth ≤ depthMost) × (natAbs (e .discharge) ≤ velocityMost * e .depth) → SideFits c → SideFits (boundarySide p e c)
 unfolding boundarySide mirrored
-boundary-side-fits e c r f = go (eqb (e .kind) wall) (eqb (e .kind) openBoundary)
+boundary-side-fits p e c r f = go (eqb (e .kind) wall) (eqb (e .kind) openBoundary)
   where
     go : (w o : Bool) → SideFits (cond w (mirrored c) (cond o c (record { bed = c .bed; depth = e .depth; velocity = velocity (e .depth) (e .discharge) })))
     go true o = record { depth = f .depth; velocity = omega (arith, abs-neg (c .velocity), f .velocity) }
@@ -340,15 +342,15 @@ module _ (s : Reach) (f : FlowFits s) where
 
   left-side-fits : (i : ℕ) → i ≤ cells s → SideFits (leftSide s i)
   unfolding leftSide
-  left-side-fits zero l = boundary-side-fits (leftBoundary (s .boundaries)) (cellSide s 0) (f .left) (cell-side-fits 0 (f .some))
+  left-side-fits zero l = boundary-side-fits Left (leftBoundary (s .held .boundaries)) (cellSide s 0) (f .left) (cell-side-fits 0 (f .some))
   left-side-fits (suc i) l = cell-side-fits i l
 
   right-side-fits : (i : ℕ) → i ≤ cells s → SideFits (rightSide s i)
   unfolding rightSide
   right-side-fits i l =
-      by-less i (cells s) (λ b. SideFits (cond b (cellSide s i) (boundarySide (rightBoundary (s .boundaries)) (cellSide s (cells s - 1)))))
+      by-less i (cells s) (λ b. SideFits (cond b (cellSide s i) (boundarySide Right (rightBoundary (s .held .boundaries)) (cellSide s (cells s - 1)))))
       (λ k. cell-side-fits i k)
-      (λ k. boundary-side-fits (rightBoundary (s .boundaries)) (cellSide s (cells s - 1)) (f .right) (cell-side-fits (cells s - 1) (let n = f .some in omega arith)))
+      (λ k. boundary-side-fits Right (rightBoundary (s .held .boundaries)) (cellSide s (cells s - 1)) (f .right) (cell-side-fits (cells s - 1) (let n = f .some in omega arith)))
 
   pub net-small : (t i : ℕ) → Mesh t (s .cellLength) → i ≤ cells s → natAbs (netAt s t i) ≤ fluxMost
   unfolding rightward leftward leftDepth rightDepth
@@ -370,7 +372,7 @@ module _ (s : Reach) (f : FlowFits s) where
 
 module _ (s : Reach) (t : ℕ) where
   abbrev flow : Reach
-  flow = flowOf (s .bed) (s .depth) (s .discharge) (s .cellLength) (s .boundaries)
+  flow = flowOf (s .bed) (s .depth) (s .discharge) (s .cellLength) (s .held .boundaries)
 
   pub sides-same : sidesMeet flow t ≡ sidesMeet s t
   unfolding sidesMeet leftSide rightSide cellSide

@@ -1,4 +1,4 @@
--- What the functions of this crate require and give: the side of an interface that a cell or an end shows, in numbers.
+-- Not the paper's: what the inner functions require and give. A reader of the model may skip this file.
 use mathlib.Core.Path.{_≡_}
 use mathlib.Core.Bool.{Bool, _&&_}
 use mathlib.Core.List.{List, []}
@@ -12,10 +12,10 @@ use Rattle.flux.specs.Limits.{bedMost, depthMost, velocityMost}
 use Rattle.flux.specs.Crossing.{waterFlux, stillThrust}
 use Rattle.flux.specs.Interface.{Side, leftDepth, rightDepth, momentumSum}
 use Rattle.flux.specs.Wave.{waveSpeed}
-use Rattle.reach.specs.Reach.{Reach, reachOf, cells, bedAt, depthAt, dischargeAt, leftBoundary, rightBoundary}
+use Rattle.reach.specs.Reach.{Reach, reachOf, cells, bedAt, depthAt, dischargeAt, leftBoundary, rightBoundary, heldWith}
 use Rattle.reach.specs.declared.boundary.Boundary.{Boundary}
 use Rattle.reach.specs.declared.ledger.Totals.{Totals}
-use Rattle.water.specs.Sides.{leftSide, rightSide}
+use Rattle.water.specs.Sides.{sideSpeed, leftSide, rightSide}
 use Rattle.water.specs.Water.{netAt, newDepth, newDischarge}
 use Rattle.water.specs.declared.SideState.{SideState}
 use Rattle.water.specs.declared.Exchange.{Exchange}
@@ -60,7 +60,7 @@ pub record ExchangeFits (c : Exchange) : Type 0 where
 abbrev pub flowOf : List ℤ → List ℕ → List ℤ → ℕ → List Boundary → Reach
 flowOf z h q X es =
     let none : Totals = record { «water_in» = 0; «water_out» = 0; «mass_in» = 0; «mass_out» = 0 } in
-    reachOf z h q [] [] [] X es (record { left = none; right = none })
+    reachOf z h q [] [] [] X (heldWith es (record { left = none; right = none }))
 
 -- bed level, depth and discharge in range
 abbrev pub InRange : ℤ → ℕ → ℤ → Type 0
@@ -74,14 +74,14 @@ pub record FlowFits (s : Reach) : Type 0 where
   pub depths : length (s .depth) ≡ cells s
   pub discharges : length (s .discharge) ≡ cells s
   pub cell : (i : ℕ) → i < cells s → InRange (bedAt s i) (depthAt s i) (dischargeAt s i)
-  pub left : (leftBoundary (s .boundaries) .depth ≤ depthMost) × (natAbs (leftBoundary (s .boundaries) .discharge) ≤ velocityMost * leftBoundary (s .boundaries) .depth)
-  pub right : (rightBoundary (s .boundaries) .depth ≤ depthMost) × (natAbs (rightBoundary (s .boundaries) .discharge) ≤ velocityMost * rightBoundary (s .boundaries) .depth)
+  pub left : (leftBoundary (s .held .boundaries) .depth ≤ depthMost) × (natAbs (leftBoundary (s .held .boundaries) .discharge) ≤ velocityMost * leftBoundary (s .held .boundaries) .depth)
+  pub right : (rightBoundary (s .held .boundaries) .depth ≤ depthMost) × (natAbs (rightBoundary (s .held .boundaries) .discharge) ≤ velocityMost * rightBoundary (s .held .boundaries) .depth)
 
 -- |u|+a of a side meets CFL
 unfoldable pub sideMeets : (t X : ℕ) → Side → Bool
-sideMeets t X s = leb (t * (natAbs (s .velocity) + waveSpeed (s .depth))) (1_000 * X)
+sideMeets t X s = leb (t * sideSpeed s) (1_000 * X)
 
--- of every side: the left boundary, each cell, the right boundary. A wall and an open end show their cell's speed, so that they add nothing
+-- of every side: the left boundary, each cell, the right boundary. A wall and an open boundary show their cell's speed, so that they add nothing
 unfoldable pub sidesMeet : Reach → (t : ℕ) → Bool
 sidesMeet s t = sideMeets t (s .cellLength) (leftSide s 0) && allBelow (suc (cells s)) (λ i. sideMeets t (s .cellLength) (rightSide s i))
 

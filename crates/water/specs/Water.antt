@@ -1,5 +1,5 @@
 -- Document 01, 'A water step': what a step of t makes of the water of a record, as formulas; whether the step is refused and whether it
--- settles is another matter.
+-- transports first is another matter.
 use mathlib.Core.Bool.{cond}
 use Prim.Native.Nat.{ℕ, suc, _+_, _*_}
 use lib.IntN.{ℤ, pos, _+ℤ_, _-ℤ_, negℤ}

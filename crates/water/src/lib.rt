@@ -1,4 +1,4 @@
-// The water of a step (document 01, 'A water step'): what a cell or an end shows at an interface, and what crosses there.
+// The water of a step (document 01, 'A water step'): what a cell or a boundary shows at an interface, and what crosses there.
 pub mod sweep;
 
 ghost use mathlib.Core.Path.{_≡_};
@@ -22,10 +22,11 @@ use numbers::signed::joined;
 use numbers::signed::left_part;
 use numbers::signed::right_part;
 use reach::boundary::Boundary;
+use reach::boundary::BoundaryPlace;
 use reach::boundary::OPEN;
 use reach::boundary::WALL;
 
-// A cell, or an end beside one: bed level, depth, wave speed, and velocity right − left
+// A cell, or a boundary beside one: bed level, depth, wave speed, and velocity right − left
 pub struct SideState {
     pub bed: i64,
     pub depth: u64,
@@ -48,10 +49,10 @@ pub fn cell_state(z: i64, h: u64, q: i64) -> SideState
     }
 }
 
-// What an end shows beside the cell c
-pub fn boundary_state(e: Boundary, c: SideState) -> SideState
+// What a boundary at the place p shows beside the cell c
+pub fn boundary_state(p: BoundaryPlace, e: Boundary, c: SideState) -> SideState
     requires { ⌜ SideStateFits c × ((e .depth ≤ depthMost) × (natAbs (e .discharge) ≤ velocityMost * e .depth)) ⌝ }
-    ensures { λ r. ⌜ SideStateFits r × (sideOf r ≡ boundarySide e (sideOf c)) ⌝ }
+    ensures { λ r. ⌜ SideStateFits r × (sideOf r ≡ boundarySide p e (sideOf c)) ⌝ }
 {
     if e.kind == WALL {
         return SideState {

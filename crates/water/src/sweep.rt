@@ -11,6 +11,7 @@ ghost use Rattle.flux.specs.Ranges.{Mesh};
 ghost use Rattle.reach.specs.Grounds.{passOr};
 ghost use Rattle.water.specs.Ranges.{sideOf, SideStateFits, ExchangeFits, flowOf, InRange, FlowFits, sideMeets, sidesMeet, Swept};
 ghost use Rattle.flux.specs.Velocity.{velocity};
+ghost use Rattle.reach.specs.declared.boundary.BoundaryPlace.the-variants.{Right};
 ghost use Rattle.water.specs.Sides.{boundarySide};
 ghost use Rattle.water.specs.Water.{nearest};
 use super::Exchange;
@@ -22,6 +23,7 @@ use super::exchange_between;
 use numbers::signed::excess;
 use numbers::signed::joined;
 use reach::boundary::Boundary;
+use reach::boundary::BoundaryPlace;
 use reach::refusal::Check;
 
 // Whether CFL, kept so far, is kept at the side c too
@@ -40,19 +42,19 @@ fn right_side(
     bed: &[i64],
     depth: &[u64],
     discharge: &[i64],
-    end: Boundary,
+    boundary: Boundary,
     before: SideState,
     i: usize,
 ) -> SideState
     requires { ⌜ (length (now depth) ≡ length (now bed)) × (length (now discharge) ≡ length (now bed)) ⌝ }
     requires { ⌜ (i < length (now bed) → InRange (getD (now bed) i (pos 0)) (getD (now depth) i 0) (getD (now discharge) i (pos 0))) ⌝ }
-    requires { ⌜ SideStateFits before × ((end .depth ≤ depthMost) × (natAbs (end .discharge) ≤ velocityMost * end .depth)) ⌝ }
-    ensures { λ r. ⌜ SideStateFits r × (sideOf r ≡ cond (ltb i (length (now (bed .entry)))) (record { bed = getD (now (bed .entry)) i (pos 0); depth = getD (now (depth .entry)) i 0; velocity = velocity (getD (now (depth .entry)) i 0) (getD (now (discharge .entry)) i (pos 0)) }) (boundarySide end (sideOf before))) ⌝ }
+    requires { ⌜ SideStateFits before × ((boundary .depth ≤ depthMost) × (natAbs (boundary .discharge) ≤ velocityMost * boundary .depth)) ⌝ }
+    ensures { λ r. ⌜ SideStateFits r × (sideOf r ≡ cond (ltb i (length (now (bed .entry)))) (record { bed = getD (now (bed .entry)) i (pos 0); depth = getD (now (depth .entry)) i 0; velocity = velocity (getD (now (depth .entry)) i 0) (getD (now (discharge .entry)) i (pos 0)) }) (boundarySide Right boundary (sideOf before))) ⌝ }
 {
     if i < bed.len() {
         return cell_state(bed[i], depth[i], discharge[i]);
     }
-    boundary_state(end, before)
+    boundary_state(BoundaryPlace::Right, boundary, before)
 }
 
 // N of a crossing
@@ -113,7 +115,7 @@ pub fn sweep(
 {
     let n = bed.len();
     let mut cell = cell_state(bed[0], depth[0], discharge[0]);
-    let beyond = boundary_state(boundaries[0], cell);
+    let beyond = boundary_state(BoundaryPlace::Left, boundaries[0], cell);
     let mut met = still_meets(still_meets(true, t, x, beyond), t, x, cell);
     let mut left = exchange_between(t, x, beyond, cell);
     net[0] = net_of(left);

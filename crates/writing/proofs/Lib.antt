@@ -1,4 +1,3 @@
 pub mod WritingLaws
-pub mod BytesBack
 pub mod RoundTripLaws
 mod Says

@@ -13,24 +13,26 @@ use Rattle.numbers.specs.Index.{tabulate}
 use Rattle.numbers.proofs.IndexLaws.{and-both, and-left, and-right, all-of, all-at, all-below, on, only, length-tabulate}
 use Rattle.flux.specs.Limits.{cellLengthMost}
 use Rattle.reach.specs.Limits.{cellsMost, wall, openBoundary, fed}
-use Rattle.reach.specs.Reach.{Reach, reachOf, cells, leftBoundary, rightBoundary, bedAt, depthAt, dischargeAt, massAt, baseAt, carriedAt}
+use Rattle.reach.specs.Reach.{Reach, reachOf, cells, leftBoundary, rightBoundary, bedAt, depthAt, dischargeAt, massAt, baseAt, carriedAt, heldWith}
 use Rattle.reach.specs.Grounds.{Ground, firstRefusal, recordGrounds, cellLengthFits, kindFits, boundaryFits, boundariesFit, cellsFit}
 use Rattle.reach.specs.Outcome.{Outcome, outcome}
 use Rattle.reach.specs.declared.boundary.Boundary.{Boundary}
 use Rattle.reach.specs.declared.refusal.Check.{Check}
 use Rattle.reach.specs.declared.refusal.Check.the-variants.{Pass, Refused}
 use Rattle.reach.proofs.GroundsLaws.{stood, go-on, further, passed-first}
+use Rattle.reach.proofs.PartsLaws.{outflow-is}
 use Rattle.reach.proofs.Sound.{boundary-sound, CarriedSound, Sound, sound, stands}
-use Rattle.sheet.specs.Bytes.{numberAt, twos, columnAt}
+use Rattle.encoding.specs.FromBytes.{numberAt, twos, columnAt}
 use Rattle.sheet.specs.Header.{sheetSize, editionOf, lengthOf, countOf, cellLengthOf, bedsAt, depthsAt, dischargesAt, massesAt, boundaryAt, boundariesOf, editionFits, sizeFits, Span, span, inside, apart, columnsClear, spansOf}
 use Rattle.sheet.specs.Opening.{emptyLedger, sheetRecord, lentFit, openGrounds, opening}
 use Rattle.sheet.proofs.HeaderLaws.{four-clear}
 use Rattle.sheet.proofs.OpeningLaws.{accepted, opened-passes, opened-sound}
-use Rattle.writing.specs.Bytes.{bitsIn, bits, columnBytes, written}
+use Rattle.encoding.specs.ToBytes.{bitsIn, bits, columnBytes, written}
 use Rattle.writing.specs.Writing.{boundaryBytes, bedsFrom, depthsFrom, dischargesFrom, massesFrom, headerBytes, sheetBytes, noneCarried, roomFits, writeGrounds, outputBy, writeRefusal, outputAfter}
 use Rattle.writing.specs.RoundTrip.{LentFor, withEmptyLedger, ReadsBack, InWritersOrder, WrittenAgain}
-use Rattle.writing.proofs.WritingLaws.{length-column, length-boundary, length-header}
-use Rattle.writing.proofs.BytesBack.{number-past, word-back, column-back, bits4-below, bits8-below, twos-bits4, twos-bits8, AllBytes, all-bytes, joined, column-again, turned-again, bits-twos4, bits-twos8}
+use Rattle.encoding.proofs.ToBytesLaws.{length-column}
+use Rattle.writing.proofs.WritingLaws.{length-boundary, length-header}
+use Rattle.encoding.proofs.BytesBack.{number-past, word-back, column-back, bits4-below, bits8-below, twos-bits4, twos-bits8, AllBytes, all-bytes, joined, column-again, turned-again, bits-twos4, bits-twos8}
 
 -- ---- the header read back
 
@@ -133,7 +135,7 @@ module _ (s : Reach) where
   n = cells s
 
   abbrev head : List ℕ
-  head = headerBytes (cells s) (s .cellLength) (s .boundaries)
+  head = headerBytes (cells s) (s .cellLength) (s .held .boundaries)
 
   abbrev bedColumn : List ℕ
   bedColumn = columnBytes 4 (map (bits 4) (s .bed))
@@ -148,7 +150,7 @@ module _ (s : Reach) where
   massColumn = columnBytes 8 (s .mass)
 
   to-beds : length head ≡ bedsFrom n
-  to-beds = length-header (cells s) (s .cellLength) (s .boundaries)
+  to-beds = length-header (cells s) (s .cellLength) (s .held .boundaries)
 
   to-depths : length (head ++ bedColumn) ≡ depthsFrom n
   to-depths = length-append head bedColumn ∙ omega (arith, to-beds, length-column 4 (map (bits 4) (s .bed)), length-map (s .bed) (bits 4))
@@ -233,12 +235,12 @@ module _ (s : Reach) where
         ∙ column-back (λ v. v) 8 (((head ++ bedColumn) ++ depthColumn) ++ dischargeColumn) (s .mass) [] (s .mass) 0 (massesFrom n) n
         (to-masses columns) (k .masses) (k .masses) mass-small (λ i l. refl)
 
-    headed : Headed t n (s .cellLength) (s .boundaries)
+    headed : Headed t n (s .cellLength) (s .held .boundaries)
     unfolding sheetBytes
     headed =
-        header-back n (s .cellLength) (s .boundaries) (bedColumn ++ (depthColumn ++ (dischargeColumn ++ massColumn))) (k .few) (k .lengthMost) (k .boundaries)
+        header-back n (s .cellLength) (s .held .boundaries) (bedColumn ++ (depthColumn ++ (dischargeColumn ++ massColumn))) (k .few) (k .lengthMost) (k .boundaries)
 
--- ---- a settled record
+-- ---- a record that carries nothing
 
 no-size : (z : ℤ) → natAbs z ≡ 0 → z ≡ pos 0
 no-size (pos n) e = ap pos e
@@ -250,7 +252,7 @@ transported-at c e i l = no-size (getD c i (pos 0)) (eqb-true _ _ (all-at (λ i.
 
 -- with nothing carried, base depth and depth agree
 still : (h b : ℕ) (l r : ℤ) → CarriedSound h b l r → l ≡ pos 0 → r ≡ pos 0 → h ≡ b
-still h b l r k e f = let m = rw (e, f) at (k .balance) in omega (arith, m)
+still h b l r k e f = let m = rw (e, f) at (k .balance) in omega (arith, m, outflow-is (pos 0) (pos 0))
 
 transported-base : (s : Reach) → Sound s → noneCarried (s .carried) ≡ true → s .depth ≡ s .base
 transported-base s k e =
@@ -279,10 +281,10 @@ boundaries-back t n X es h two = ap₂ (λ (a b : Boundary). a ∷ b ∷ []) (h 
 
 same-reach : {z z′ : List ℤ} {h h′ : List ℕ} {q q′ : List ℤ} {m m′ b b′ : List ℕ} {c c′ : List ℤ} {X X′ : ℕ} {es es′ : List Boundary}
     → z ≡ z′ → h ≡ h′ → q ≡ q′ → m ≡ m′ → b ≡ b′ → c ≡ c′ → X ≡ X′ → es ≡ es′
-    → reachOf z h q m b c X es emptyLedger ≡ reachOf z′ h′ q′ m′ b′ c′ X′ es′ emptyLedger
+    → reachOf z h q m b c X (heldWith es emptyLedger) ≡ reachOf z′ h′ q′ m′ b′ c′ X′ (heldWith es′ emptyLedger)
 same-reach e₁ e₂ e₃ e₄ e₅ e₆ e₇ e₈ = rw (e₁, e₂, e₃, e₄, e₅, e₆, e₇, e₈) refl
 
-record-back : (s : Reach) → Sound s → noneCarried (s .carried) ≡ true → length (s .boundaries) ≡ 2 → sheetRecord (sheetBytes s) ≡ withEmptyLedger s
+record-back : (s : Reach) → Sound s → noneCarried (s .carried) ≡ true → length (s .held .boundaries) ≡ 2 → sheetRecord (sheetBytes s) ≡ withEmptyLedger s
 unfolding sheetRecord
 record-back s k e two =
     let t = sheetBytes s in
@@ -296,7 +298,7 @@ record-back s k e two =
     (depths ∙ transported-base s k e)
     (ap (λ (n : ℕ). replicate (n + 1) (pos 0)) (h .count) ∙ transported-none s k e)
     (h .cellLength)
-    (boundaries-back t (cells s) (s .cellLength) (s .boundaries) h two)
+    (boundaries-back t (cells s) (s .cellLength) (s .held .boundaries) h two)
 
 -- ---- the grounds of an opening stand
 
@@ -357,17 +359,17 @@ no-grounds : firstRefusal [] ≡ Pass
 unfolding firstRefusal
 no-grounds = refl
 
-opens : (s l : Reach) → firstRefusal (recordGrounds s (s .boundaries)) ≡ Pass → noneCarried (s .carried) ≡ true → length (s .boundaries) ≡ 2 → LentFor (cells s) l
+opens : (s l : Reach) → firstRefusal (recordGrounds s (s .held .boundaries)) ≡ Pass → noneCarried (s .carried) ≡ true → length (s .held .boundaries) ≡ 2 → LentFor (cells s) l
     → opening (sheetBytes s) l ≡ record { refusal = 0; reach = withEmptyLedger s }
 opens s l e f two lf =
     let t = sheetBytes s in
-    let g = stood (recordGrounds s (s .boundaries)) e in
-    let k = sound s (s .boundaries) e in
+    let g = stood (recordGrounds s (s .held .boundaries)) e in
+    let k = sound s (s .held .boundaries) e in
     let h = headed s k in
     let long = length-sheet s (columns s k) in
     let X = s .cellLength in
     let n = cells s in
-    let es = s .boundaries in
+    let es = s .held .boundaries in
     let same = record-back s k f two in
     let gs = openGrounds t (length (l .bed)) (length (l .depth)) (length (l .discharge)) (length (l .mass)) (length (l .base)) (length (l .carried)) in
     let passes : firstRefusal gs ≡ Pass =
@@ -396,8 +398,8 @@ write-grounds s room e = e
 pub reads-back : ReadsBack
 reads-back s out l two pass lf =
     let e = write-grounds s (length out) pass in
-    let r = passed-first (recordGrounds s (s .boundaries)) _ e in
-    let k = sound s (s .boundaries) r in
+    let r = passed-first (recordGrounds s (s .held .boundaries)) _ e in
+    let k = sound s (s .held .boundaries) r in
     ap (λ (t : List ℕ). opening t l)
     (ap (take (sheetSize (cells s))) (output-passed s out pass)
     ∙ written-first (sheetBytes s) out (sheetSize (cells s)) (length-sheet s (columns s k)))
@@ -486,10 +488,10 @@ opened-transported : (s : List ℕ) → noneCarried (sheetRecord s .carried) ≡
 unfolding sheetRecord
 opened-transported s = transported-replicate (countOf s + 1)
 
-write-passes : (r : Reach) (room : ℕ) → firstRefusal (recordGrounds r (r .boundaries)) ≡ Pass → noneCarried (r .carried) ≡ true → sheetSize (cells r) ≤ room
+write-passes : (r : Reach) (room : ℕ) → firstRefusal (recordGrounds r (r .held .boundaries)) ≡ Pass → noneCarried (r .carried) ≡ true → sheetSize (cells r) ≤ room
     → writeRefusal r room ≡ Pass
 unfolding writeRefusal roomFits
-write-passes r room e f g = further (recordGrounds r (r .boundaries)) _ e ∙ go-on _ _ f (go-on _ _ (le-leb _ _ g) no-grounds)
+write-passes r room e f g = further (recordGrounds r (r .held .boundaries)) _ e ∙ go-on _ _ f (go-on _ _ (le-leb _ _ g) no-grounds)
 
 module _ (s : List ℕ) (l : Reach) where
   abbrev grounds : List Ground
@@ -579,7 +581,7 @@ written-again sheet l out bytes order opened room =
     let k = opened-sound sheet _ _ _ _ _ _ p in
     let long = opened-long sheet (g 1) in
     let fits : writeRefusal r (length out) ≡ Pass
-    = write-passes r (length out) (stands r (r .boundaries) k (k .boundaries)) (opened-transported sheet)
+    = write-passes r (length out) (stands r (r .held .boundaries) k (k .boundaries)) (opened-transported sheet)
     (omega (arith, room, ap sheetSize (cells-are sheet b), long)) in
     let same : opening sheet l .reach ≡ r = ap (λ (o : Outcome). o .reach) (accepted sheet l p) in
     let again : sheetBytes r ≡ sheet = sheet-again sheet b (opened-headed sheet (g 0) (g 1) (in-place sheet long (g 2) order)) long (g 5) in

@@ -14,16 +14,15 @@ use prog.Memory.{Memory}
 use prog.Routine.{Routine}
 use prog.Wp.{Heap}
 use Rattle.reach.specs.Reach.{reachOf}
-use Rattle.reach.specs.declared.boundary.Boundary.{Boundary}
-use Rattle.reach.specs.declared.ledger.Ledger.{Ledger}
+use Rattle.reach.specs.declared.held.Held.{Held}
 use Rattle.writing.specs.Writing.{WriteCameTo}
 use Rattle.writing.specs.declared.write.WriteAnswer.{WriteAnswer}
 use Rattle.writing.proofs.write.write_sheet.{ensures-1}
 
 pub write-sheet-says : {M : Type 1} (𝓤 : URA M) (H : Heap 𝓤) (κs : Lfts 7) (A : Atoms 𝓤) (mem : Memory → SProp 𝓤) (run : Routine → Fun 𝓤)
     (z : RefT (List ℤ)) (h : RefT (List ℕ)) (q : RefT (List ℤ)) (m b : RefT (List ℕ)) (c : RefT (List ℤ))
-    (x : ℕ) (boundaries : List Boundary) (k : Ledger) (out : RefT (List ℕ)) (last : List ℕ) (r : WriteAnswer) →
-    ensures-1 𝓤 H κs A mem run z h q m b c x boundaries k out
+    (x : ℕ) (k : Held) (out : RefT (List ℕ)) (last : List ℕ) (r : WriteAnswer) →
+    ensures-1 𝓤 H κs A mem run z h q m b c x k out
     (record { entry = z; exit = z })
     (record { entry = h; exit = h })
     (record { entry = q; exit = q })
@@ -31,9 +30,8 @@ pub write-sheet-says : {M : Type 1} (𝓤 : URA M) (H : Heap 𝓤) (κs : Lfts 7
     (record { entry = b; exit = b })
     (record { entry = c; exit = c })
     (record { entry = x; exit = x })
-    (record { entry = boundaries; exit = boundaries })
     (record { entry = k; exit = k })
     (record { entry = out; exit = at-last out last })
     r
-    ≡ fact 𝓤 (WriteCameTo (reachOf (now z) (now h) (now q) (now m) (now b) (now c) x boundaries k) (now out) r last)
-write-sheet-says 𝓤 H κs A mem run z h q m b c x boundaries k out last r = refl
+    ≡ fact 𝓤 (WriteCameTo (reachOf (now z) (now h) (now q) (now m) (now b) (now c) x k) (now out) r last)
+write-sheet-says 𝓤 H κs A mem run z h q m b c x k out last r = refl

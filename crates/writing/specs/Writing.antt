@@ -10,11 +10,11 @@ use Rattle.numbers.specs.Index.{allBelow}
 use Rattle.reach.specs.Reach.{Reach, cells, leftBoundary, rightBoundary}
 use Rattle.reach.specs.Grounds.{Ground, ground, firstRefusal, numberOf, recordGrounds}
 use Rattle.reach.specs.declared.boundary.Boundary.{Boundary}
-use Rattle.reach.specs.declared.ledger.Ledger.{Ledger}
+use Rattle.reach.specs.declared.held.Held.{Held}
 use Rattle.reach.specs.declared.refusal.Check.{Check}
 use Rattle.reach.specs.declared.refusal.Check.the-variants.{Pass, Refused}
 use Rattle.sheet.specs.Header.{headerSize, sheetSize}
-use Rattle.writing.specs.Bytes.{bits, columnBytes, written}
+use Rattle.encoding.specs.ToBytes.{bits, columnBytes, written}
 use Rattle.writing.specs.declared.write.WriteAnswer.{WriteAnswer}
 
 -- ---- the bytes of a sheet
@@ -45,7 +45,7 @@ headerBytes n X es =
 -- bed levels i32, depths u32, discharges i64, masses u64
 unfoldable pub sheetBytes : Reach → List ℕ
 sheetBytes s =
-    headerBytes (cells s) (s .cellLength) (s .boundaries)
+    headerBytes (cells s) (s .cellLength) (s .held .boundaries)
     ++ (columnBytes 4 (map (bits 4) (s .bed))
     ++ (columnBytes 4 (s .depth)
     ++ (columnBytes 8 (map (bits 8) (s .discharge))
@@ -61,7 +61,7 @@ roomFits n room = leb (sheetSize n) room
 
 -- 4 to 9, then 14 and 15
 abbrev pub writeGrounds : Reach → (room : ℕ) → List Ground
-writeGrounds s room = recordGrounds s (s .boundaries) ++ (ground 14 (noneCarried (s .carried)) ∷ ground 15 (roomFits (cells s) room) ∷ [])
+writeGrounds s room = recordGrounds s (s .held .boundaries) ++ (ground 14 (noneCarried (s .carried)) ∷ ground 15 (roomFits (cells s) room) ∷ [])
 
 -- the sheet stands at the start of the output, whose other bytes keep their values; a refused write leaves the output as it came
 abbrev pub outputBy : Check → Reach → (out : List ℕ) → List ℕ
@@ -74,12 +74,11 @@ writeRefusal s room = firstRefusal (writeGrounds s room)
 unfoldable pub outputAfter : Reach → (out : List ℕ) → List ℕ
 outputAfter s out = outputBy (writeRefusal s (length out)) s out
 
-abbrev pub writtenWith : ℕ → List Boundary → Ledger → WriteAnswer
-writtenWith n es k = record { refusal = n; boundaries = es; ledger = k }
+abbrev pub writtenWith : ℕ → Held → WriteAnswer
+writtenWith n k = record { refusal = n; held = k }
 
 -- a write came out as the definitions say: every field of its answer, and the output; boundaries and ledger are handed back as they came
 pub record WriteCameTo (s : Reach) (out : List ℕ) (r : WriteAnswer) (out' : List ℕ) : Type 0 where
   pub refusal-is : r .refusal ≡ numberOf (writeRefusal s (length out))
-  pub boundaries-are : r .boundaries ≡ s .boundaries
-  pub ledger-is : r .ledger ≡ s .ledger
+  pub held-is : r .held ≡ s .held
   pub output-is : out' ≡ outputAfter s out

@@ -5,19 +5,19 @@ ghost use Prim.Native.Nat.{ℕ, _≤_, _<_};
 ghost use lib.IntN.{pos, natAbs};
 ghost use lib.ListN.{length, getD};
 ghost use Rattle.reach.specs.Limits.{cellsMost};
-ghost use Rattle.reach.specs.Reach.{reachOf, leftBoundary, rightBoundary};
+ghost use Rattle.reach.specs.Reach.{reachOf, came, leftBoundary, rightBoundary, heldWith};
 ghost use Rattle.reach.specs.Grounds.{numberOf, passOr};
 ghost use Rattle.sheet.specs.Header.{sheetSize};
 ghost use Rattle.sheet.specs.Opening.{emptyLedger};
-ghost use Rattle.writing.specs.Bytes.{written};
+ghost use Rattle.encoding.specs.ToBytes.{written};
 ghost use Rattle.writing.specs.Writing.{sheetBytes, noneCarried, roomFits, writeRefusal, writtenWith, WriteCameTo};
-use super::bytes::put_column;
-use super::bytes::put_signed;
 use super::header::put_header;
+use encoding::putting::put_column;
+use encoding::putting::put_signed;
 use numbers::signed::magnitude;
 use reach::boundary::Boundary;
 use reach::check_record;
-use reach::ledger::Ledger;
+use reach::held::Held;
 use reach::refusal::Check;
 use sheet::header::HALF_4;
 use sheet::header::HALF_8;
@@ -27,8 +27,7 @@ use sheet::header::HEADER_SIZE;
 #[repr(C)]
 pub struct WriteAnswer {
     pub refusal: u32,
-    pub boundaries: [Boundary; 2],
-    pub ledger: Ledger,
+    pub held: Held,
 }
 
 // Ground 14
@@ -65,12 +64,12 @@ fn check_write(
     base: &[u64],
     carried: &[i64],
     x: u64,
-    boundaries: [Boundary; 2],
-    ledger: Ledger,
+    held: Held,
     room: usize,
 ) -> Check
-    ensures { λ r. ⌜ r ≡ writeRefusal (reachOf (now (bed .entry)) (now (depth .entry)) (now (discharge .entry)) (now (mass .entry)) (now (base .entry)) (now (carried .entry)) x boundaries ledger) room ⌝ }
+    ensures { λ r. ⌜ r ≡ writeRefusal (came bed depth discharge mass base carried x held) room ⌝ }
 {
+    let boundaries = held.boundaries;
     let checked = check_record(
         bed,
         depth,
@@ -79,8 +78,7 @@ fn check_write(
         base,
         carried,
         x,
-        boundaries,
-        ledger,
+        held,
         boundaries,
     );
     let Check::Pass = checked else {
@@ -107,7 +105,7 @@ fn put_sheet(
     requires { ⌜ (natAbs (leftBoundary boundaries .discharge) < 9_223_372_036_854_775_808) × (natAbs (rightBoundary boundaries .discharge) < 9_223_372_036_854_775_808) ⌝ }
     requires { ⌜ ((i : ℕ) → i < length (now bed) → natAbs (getD (now bed) i (pos 0)) < 2_147_483_648) ⌝ }
     requires { ⌜ ((i : ℕ) → i < length (now discharge) → natAbs (getD (now discharge) i (pos 0)) < 9_223_372_036_854_775_808) ⌝ }
-    ensures { λ _. ⌜ now (out .exit) ≡ written (sheetBytes (reachOf (now (bed .entry)) (now (depth .entry)) (now (discharge .entry)) (now (mass .entry)) [] [] x boundaries emptyLedger)) (now (out .entry)) ⌝ }
+    ensures { λ _. ⌜ now (out .exit) ≡ written (sheetBytes (reachOf (now (bed .entry)) (now (depth .entry)) (now (discharge .entry)) (now (mass .entry)) [] [] x (heldWith boundaries emptyLedger))) (now (out .entry)) ⌝ }
 {
     let n = bed.len();
     put_header(out, n as u64, x, boundaries);
@@ -117,24 +115,16 @@ fn put_sheet(
     put_column(out, HEADER_SIZE + 16 * n, 8, mass);
 }
 
-fn refused(k: Check, boundaries: [Boundary; 2], ledger: Ledger) -> WriteAnswer
-    ensures { λ r. ⌜ r ≡ writtenWith (numberOf k) boundaries ledger ⌝ }
+fn refused(k: Check, held: Held) -> WriteAnswer
+    ensures { λ r. ⌜ r ≡ writtenWith (numberOf k) held ⌝ }
 {
     let Check::Refused(n) = k else {
-        return WriteAnswer {
-            refusal: 0,
-            boundaries,
-            ledger,
-        };
+        return WriteAnswer { refusal: 0, held };
     };
-    WriteAnswer {
-        refusal: n,
-        boundaries,
-        ledger,
-    }
+    WriteAnswer { refusal: n, held }
 }
 
-// Writes a settled record as a sheet at the start of out.
+// Writes a record that carries nothing as a sheet at the start of out.
 pub fn write_sheet(
     bed: &[i64],
     depth: &[u64],
@@ -143,11 +133,10 @@ pub fn write_sheet(
     base: &[u64],
     carried: &[i64],
     x: u64,
-    boundaries: [Boundary; 2],
-    ledger: Ledger,
+    held: Held,
     out: &mut [u8],
 ) -> WriteAnswer
-    ensures { λ r. ⌜ WriteCameTo (reachOf (now (bed .entry)) (now (depth .entry)) (now (discharge .entry)) (now (mass .entry)) (now (base .entry)) (now (carried .entry)) x boundaries ledger) (now (out .entry)) r (now (out .exit)) ⌝ }
+    ensures { λ r. ⌜ WriteCameTo (came bed depth discharge mass base carried x held) (now (out .entry)) r (now (out .exit)) ⌝ }
 {
     let checked = check_write(
         bed,
@@ -157,17 +146,13 @@ pub fn write_sheet(
         base,
         carried,
         x,
-        boundaries,
-        ledger,
+        held,
         out.len(),
     );
     let Check::Pass = checked else {
-        return refused(checked, boundaries, ledger);
+        return refused(checked, held);
     };
+    let boundaries = held.boundaries;
     put_sheet(out, bed, depth, discharge, mass, x, boundaries);
-    WriteAnswer {
-        refusal: 0,
-        boundaries,
-        ledger,
-    }
+    WriteAnswer { refusal: 0, held }
 }

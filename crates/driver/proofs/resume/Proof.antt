@@ -12,10 +12,10 @@ use Rattle.driver.proofs.resume.Statement.{statement}
 use Rattle.driver.proofs.resume.Tie as tie
 
 abbrev Inv-loop : tie.InvT-loop
-Inv-loop words sheets z₀ h₀ q₀ m₀ b₀ c₀ x out₀ answers₀ n X₀ pair₀ held₀ j₀ z h q m b c out answers X pair held j =
+Inv-loop words sheets z₀ h₀ q₀ m₀ b₀ c₀ x out₀ answers₀ n X₀ held₀ j₀ z h q m b c out answers X held j =
     (n ≡ length words / 13)
     × (j ≤ n)
-    × (playedOn words sheets (length out₀) n j (world (reachOf z h q m b c X pair held) out answers) ≡ playedFrom (world (reachOf z₀ h₀ q₀ m₀ b₀ c₀ X₀ pair₀ held₀) out₀ answers₀) 0 (script words sheets (length out₀)))
+    × (playedOn words sheets (length out₀) n j (world (reachOf z h q m b c X held) out answers) ≡ playedFrom (world (reachOf z₀ h₀ q₀ m₀ b₀ c₀ X₀ held₀) out₀ answers₀) 0 (script words sheets (length out₀)))
     × (length z ≡ length z₀)
     × (length h ≡ length h₀)
     × (length q ≡ length q₀)
@@ -26,7 +26,7 @@ Inv-loop words sheets z₀ h₀ q₀ m₀ b₀ c₀ x out₀ answers₀ n X₀ p
     × (length answers ≡ length answers₀)
 
 abbrev μ-loop : tie.MeasureT-loop
-μ-loop words sheets z₀ h₀ q₀ m₀ b₀ c₀ x out₀ answers₀ n X₀ pair₀ held₀ j₀ z h q m b c out answers X pair held j = n - j
+μ-loop words sheets z₀ h₀ q₀ m₀ b₀ c₀ x out₀ answers₀ n X₀ held₀ j₀ z h q m b c out answers X held j = n - j
 
 abbrev start : tie.At-loop Inv-loop μ-loop → tie.Start Inv-loop μ-loop
 start c = c .before .before .before .before .before .before .before .before
@@ -35,7 +35,7 @@ start c = c .before .before .before .before .before .before .before .before
 abbrev reach : tie.At-loop Inv-loop μ-loop → Reach
 reach c =
     let l = c .loop in
-    reachOf (l .bed) (l .depth) (l .discharge) (l .mass) (l .base) (l .carried) (l .cell-length) (l .pair) (l .held)
+    reachOf (l .bed) (l .depth) (l .discharge) (l .mass) (l .base) (l .carried) (l .cell-length) (l .current)
 
 loop-holds : tie.Need-loop-holds Inv-loop μ-loop
 loop-holds c =
@@ -54,36 +54,36 @@ mul-play-call : tie.Need-mul-play-call Inv-loop μ-loop
 mul-play-call c = let e = few c in omega (arith, e)
 
 play-call-requires : tie.Need-play-call-requires Inv-loop μ-loop
-play-call-requires c κs = room-for (c .before .before .before .before .before .before .before)
+play-call-requires c κs = let e = room-for (c .before .before .before .before .before .before .before) in omega (arith, e)
 
 note-requires : tie.Need-note-requires Inv-loop μ-loop
 note-requires c κs = let e = few (c .before .before .before .before .before .before .before .before .before .before .before .before .before .before .before .before .before .before .before .before) in omega (arith, e)
 
 add-j : tie.Need-add-j Inv-loop μ-loop
-add-j c = let e = few (c .before .before .before .before .before .before .before .before .before .before .before .before .before .before .before .before .before .before .before .before .before .before .before .before .before) in omega (arith, e)
+add-j c = let e = few (c .before .before .before .before .before .before .before .before .before .before .before .before .before .before .before .before .before .before .before .before .before .before .before .before) in omega (arith, e)
 
 loop-less : tie.Need-loop-less Inv-loop μ-loop
-loop-less c = let l = c .before .before .before .before .before .before .before .before .before .before .before .before .before .before .before .before .before .before .before .before .before .before .before .before .before .loop-test .taken in omega (arith, l)
+loop-less c = let l = c .before .before .before .before .before .before .before .before .before .before .before .before .before .before .before .before .before .before .before .before .before .before .before .before .loop-test .taken in omega (arith, l)
 
 loop-again : tie.Need-loop-again Inv-loop μ-loop
 loop-again c =
-    let k = c .before .before .before .before .before .before .before .before .before .before .before .before .before .before .before .before .before .before .before .before .before .before .before .before .before .before in
+    let k = c .before .before .before .before .before .before .before .before .before .before .before .before .before .before .before .before .before .before .before .before .before .before .before .before .before in
     let a = start k .args in
     let l = k .loop in
-    let t = c .before .before .before .before .before .before .before .before .before .before .before .before .before .before .before .before .before .before .before .before .before .before .before .before .before .loop-test .taken in
-    let p = c .before .before .before .before .before .before .before .before .before .before .before .before .before .before .before .before .before .play-call in
+    let t = c .before .before .before .before .before .before .before .before .before .before .before .before .before .before .before .before .before .before .before .before .before .before .before .before .loop-test .taken in
+    let p = c .before .before .before .before .before .before .before .before .before .before .before .before .before .before .before .before .play-call in
     let i = l .inv in (
       i .0,
       omega (arith, t),
-      played-on (now (a .words)) (now (a .sheets)) (length (now (a .out))) _ (l .j) (reach k) (l .out) (l .answers) {r = p .result} t (rw (i .9) at (p .ensures)) (c .before .before .before .before .note .ensures) ∙ i .2,
+      played-on (now (a .words)) (now (a .sheets)) (length (now (a .out))) _ (l .j) (reach k) (l .out) (l .answers) {r = p .result} t (λ f. rw (i .9) at (p .ensures f)) (c .before .before .before .note .ensures) ∙ i .2,
       p .kept .1 .1 .1 .0 ∙ i .3,
       p .kept .1 .1 .1 .1 .0 ∙ i .4,
       p .kept .1 .1 .1 .1 .1 .0 ∙ i .5,
       p .kept .1 .1 .1 .1 .1 .1 .0 ∙ i .6,
       p .kept .1 .1 .1 .1 .1 .1 .1 .0 ∙ i .7,
       p .kept .1 .1 .1 .1 .1 .1 .1 .1 .0 ∙ i .8,
-      p .kept .1 .1 .1 .1 .1 .1 .1 .1 .1 .1 .1 .1 .0 ∙ i .9,
-      c .before .before .before .before .note .kept .0 ∙ i .10,
+      p .kept .1 .1 .1 .1 .1 .1 .1 .1 .1 .1 .1 .0 ∙ i .9,
+      c .before .before .before .note .kept .0 ∙ i .10,
     )
 
 same-length : tie.Need-same-length Inv-loop μ-loop

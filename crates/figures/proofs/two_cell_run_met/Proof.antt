@@ -1,6 +1,6 @@
 -- `figures::two_cell_run_met` meets its contract: every figure is computed from the definitions. Assumes nothing.
 use mathlib.Core.Path.{refl}
-use Rattle.numbers.specs.Index.{allOf, allBelow, tabulate}
+use Rattle.numbers.specs.Index.{allOf, allBelow, tabulate, sum}
 use Rattle.numbers.specs.Root.{squareRoot}
 use Rattle.numbers.specs.Search.{climb}
 use Rattle.numbers.specs.Shares.{share, shares, rest}
@@ -10,20 +10,21 @@ use Rattle.flux.specs.Interface.{reducedDepth, leftDepth, rightDepth, netWater,
 use Rattle.flux.specs.Velocity.{velocity}
 use Rattle.flux.specs.Wave.{waveSpeed}
 use Rattle.cfl.specs.Cfl.{signalSpeed, speedAt, meetsCfl}
-use Rattle.mass.specs.Transport.{cellShares, rightShare, leftShare, rightwards, leftwards, movedCell, movedMass}
+use Rattle.mass.specs.Transport.{cellShares, rightwards, leftwards, movedCell}
+use Rattle.reach.specs.Parts.{parts, outflow}
 use Rattle.reach.specs.Grounds.{firstRefusal, lengthsFit, cellLengthFits, wallFits, openFits, fedFits, kindFits, boundaryFits, boundariesFit, cellFits, cellsFit, carriedFits, carriedCellsFit, shutFits, carriedFit, totalsFit, ledgerFits}
 use Rattle.transport.specs.Calls.{enteringLeft, enteringRight, withMass, ledgerWith, transportLedger, afterTransport, setBoundaries, transport}
-use Rattle.water.specs.Sides.{cellSide, boundarySide, leftSide, rightSide}
+use Rattle.water.specs.Sides.{sideSpeed, cellSide, boundarySide, leftSide, rightSide}
 use Rattle.water.specs.Water.{netAt, momentumAt, ownLeft, ownRight, newDepth, pushed, nearest, newDischarge}
-use Rattle.stepping.specs.GreatestStep.{boundarySpeed, placeSpeed}
-use Rattle.stepping.specs.Step.{summed, keepsSums, transportedFirst, withWater, withBoundaryWater, stepLedger, afterStep, timeFits, depthsFit, step}
+use Rattle.timestep.specs.GreatestStep.{boundarySpeed, leftSpeed, rightSpeed, placeSpeed}
+use Rattle.update.specs.Step.{summed, keepsSums, transportedFirst, withWater, withBoundaryWater, stepLedger, afterStep, timeFits, depthsFit, step}
 use Rattle.figures.proofs.two_cell_run_met.Statement.{statement}
 use Rattle.figures.proofs.two_cell_run_met.Tie as tie
 
 returns : tie.Need-returns
-unfolding allOf allBelow tabulate squareRoot climb share shares rest maxℤ eqℤ upper lower waterOf waterFlux secondMoment momentumOf momentumFlux stillThrust reducedDepth leftDepth rightDepth netWater momentumSum mirrored velocity waveSpeed signalSpeed speedAt meetsCfl cellShares rightShare leftShare rightwards leftwards movedCell movedMass firstRefusal lengthsFit cellLengthFits wallFits openFits fedFits kindFits boundaryFits boundariesFit cellFits cellsFit carriedFits carriedCellsFit shutFits carriedFit totalsFit ledgerFits enteringLeft enteringRight withMass ledgerWith transportLedger afterTransport setBoundaries transport cellSide boundarySide leftSide rightSide netAt momentumAt ownLeft ownRight newDepth pushed nearest newDischarge boundarySpeed placeSpeed summed keepsSums transportedFirst withWater withBoundaryWater stepLedger afterStep timeFits depthsFit step
+unfolding allOf allBelow tabulate squareRoot climb share shares rest maxℤ eqℤ upper lower waterOf waterFlux secondMoment momentumOf momentumFlux stillThrust reducedDepth leftDepth rightDepth netWater momentumSum mirrored velocity waveSpeed signalSpeed speedAt meetsCfl sum parts outflow cellShares rightwards leftwards movedCell firstRefusal lengthsFit cellLengthFits wallFits openFits fedFits kindFits boundaryFits boundariesFit cellFits cellsFit carriedFits carriedCellsFit shutFits carriedFit totalsFit ledgerFits enteringLeft enteringRight withMass ledgerWith transportLedger afterTransport setBoundaries transport cellSide boundarySide leftSide rightSide netAt momentumAt ownLeft ownRight newDepth pushed nearest newDischarge boundarySpeed leftSpeed rightSpeed sideSpeed placeSpeed summed keepsSums transportedFirst withWater withBoundaryWater stepLedger afterStep timeFits depthsFit step
 returns c = (
-  record { step-accepted = refl; transporting-accepted = refl; depths = refl; discharges = refl; masses = refl; ledger-empty = refl },
+  record { step-accepted = refl; transport-accepted = refl; depths = refl; discharges = refl; masses = refl; ledger-empty = refl },
   record { t-260 = refl; t-261 = refl },
 )
 

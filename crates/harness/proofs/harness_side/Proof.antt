@@ -3,7 +3,7 @@ use mathlib.Core.Path.{_≡_, sym, ap, ap₂, _∙_}
 use lib.IntN.{ℤ, subℕ}
 use native.Mathlib.Omega.{arith}
 use mir.Facts.{toZ-ofZ}
-use Rattle.numbers.proofs.SignedLaws.{parts, abs-parts}
+use Rattle.numbers.proofs.SignedLaws.{two-parts, abs-parts}
 use Rattle.flux.specs.Crossing.{waterFlux, momentumFlux}
 use borrow.Author.Needs.{needs}
 use Rattle.harness.proofs.harness_side.Statement.{statement}
@@ -44,7 +44,7 @@ returns c =
     let u = s .args .u in
     let r = rw (toZ-ofZ f) at (c .before .before .before .right-part .ensures) in
     let l = rw (toZ-ofZ f) at (c .before .before .left-part .ensures) in
-    let e = ap₂ subℕ r l ∙ sym (parts u) in
+    let e = ap₂ subℕ r l ∙ sym (two-parts u) in
     let x = c .before .fluxes-of .ensures in (
       x .0 ∙ ap (λ (v : ℤ). waterFlux (s .args .t) (s .args .x) (s .args .h) v) e,
       (x .1 ∙ ap (λ (v : ℤ). momentumFlux (s .args .t) (s .args .x) (s .args .h) v) e, c .still-thrust .ensures),

@@ -7,7 +7,7 @@ use lib.IntN.{subℕ}
 use mir.Facts.{toZ-ofZ}
 use borrow.Author.Needs.{sfits-of}
 use Rattle.numbers.specs.Signed.{positive}
-use Rattle.numbers.proofs.SignedLaws.{R, L, abs-parts, parts}
+use Rattle.numbers.proofs.SignedLaws.{R, L, abs-parts, two-parts}
 use Rattle.flux.specs.Velocity.{velocity}
 use Rattle.flux.proofs.VelocityLaws.{velocity-right, velocity-left}
 use borrow.Author.Needs.{needs}
@@ -32,7 +32,7 @@ returns : tie.Need-returns
 returns c =
     let s = c .before .before in
     let e = rw (toZ-ofZ (s .fits .q)) at (c .before .velocity-parts .ensures) in
-    rw (toZ-ofZ (sfits-of (c .joined .ok))) (c .joined .ensures ∙ ap₂ subℕ (e .0) (e .1) ∙ sym (parts (velocity (s .args .h) (s .args .q))))
+    rw (toZ-ofZ (sfits-of (c .joined .ok))) (c .joined .ensures ∙ ap₂ subℕ (e .0) (e .1) ∙ sym (two-parts (velocity (s .args .h) (s .args .q))))
 
 pub harness-velocity-spec : {M : Type 1} → statement M
 harness-velocity-spec = tie.close (tie.spec velocity-parts-requires joined-requires returns)

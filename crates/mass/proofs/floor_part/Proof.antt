@@ -3,14 +3,14 @@ use mathlib.Core.Path.{sym, ap, _∙_}
 use Prim.Native.Nat.{ℕ, _*_, _/_, _≤_}
 use native.Mathlib.Nat.{mul-le-mul}
 use native.Mathlib.Omega.{arith}
-use Rattle.mass.proofs.TransportLaws.{no-part}
+use Rattle.numbers.proofs.SharesLaws.{floor-none}
 use borrow.Author.Needs.{needs}
 use Rattle.mass.proofs.floor_part.Statement.{statement}
 use Rattle.mass.proofs.floor_part.Tie as tie
 
 returns : tie.Need-returns
 returns c =
-    let s = c .before .args in sym (ap (λ (p : ℕ). s .m * p / s .b) (c .if1 .taken) ∙ no-part (s .m) (s .b))
+    let s = c .before .args in sym (ap (λ (p : ℕ). s .m * p / s .b) (c .if1 .taken) ∙ floor-none (s .m) (s .b))
 
 mul-result : tie.Need-mul-result
 mul-result c =

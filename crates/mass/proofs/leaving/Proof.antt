@@ -1,16 +1,18 @@
 -- `mass::leaving` meets its contract. Assumes nothing.
 use mathlib.Core.Path.{_≡_, sym, ap, ap₂, _∙_}
+use mathlib.Core.List.{[], _∷_}
 use denote.Ref.{now}
-use Prim.Native.Nat.{ℕ, _+_, _≤_, _<_}
+use Prim.Native.Nat.{ℕ, _+_}
 use native.Mathlib.Omega.{arith}
-use lib.IntN.{ℤ, pos, negℤ}
-use lib.ListN.{length, getD}
+use lib.IntN.{ℤ, pos}
+use lib.ListN.{getD}
 use mir.Facts.{toZ-ofZ}
 use borrow.Author.Needs.{sfits-of}
-use Rattle.numbers.specs.Shares.{share}
-use Rattle.numbers.specs.Signed.{positive}
-use Rattle.mass.specs.Transport.{MassColumns, massColumns, outRight, outLeft}
-use Rattle.mass.proofs.TransportLaws.{right-share-is, left-share-is, leftwards-cell, leftwards-end}
+use Rattle.numbers.specs.Shares.{shares}
+use Rattle.reach.specs.Parts.{parts, rightOf, leftOf}
+use Rattle.reach.proofs.PartsLaws.{outflow-is}
+use Rattle.mass.specs.Transport.{MassColumns, massColumns, cellShares}
+use Rattle.mass.proofs.TransportLaws.{waterRightwards, waterLeftwards, leftwards-cell, leftwards-end}
 use borrow.Author.Needs.{needs}
 use Rattle.mass.proofs.leaving.Statement.{statement}
 use Rattle.mass.proofs.leaving.Tie as tie
@@ -21,10 +23,10 @@ entry c = c .before .before .before .before .before .before .before .before .bef
 abbrev col : tie.Start → MassColumns
 col s = massColumns (now (s .args .mass)) (now (s .args .base)) (now (s .args .carried)) 0 (s .args .right-in)
 
-right-is : (c : tie.After-left-part) → c .before .before .right-part .result ≡ outRight (col (entry c)) (entry c .args .i)
+right-is : (c : tie.After-left-part) → c .before .before .right-part .result ≡ waterRightwards (col (entry c)) (entry c .args .i + 1)
 right-is c = rw (toZ-ofZ (sfits-of (c .before .before .before .right-part-arg .given))) at (c .before .before .right-part .ensures)
 
-left-is : (c : tie.After-left-part) → c .left-part .result ≡ outLeft (col (entry c)) (entry c .args .i)
+left-is : (c : tie.After-left-part) → c .left-part .result ≡ waterLeftwards (col (entry c)) (entry c .args .i)
 left-is c = rw (toZ-ofZ (sfits-of (c .before .left-part-arg .given))) at (c .left-part .ensures)
 
 mul-shares-of : tie.Need-mul-shares-of
@@ -64,19 +66,25 @@ shares-of-requires : tie.Need-shares-of-requires
 shares-of-requires c κs =
     let s = entry c in
     let g = s .pre .0 .giving (c .before .before .before .before .before .before .if1 .taken) in
-    record { deep = g .deep; rich = g .rich; covered = omega (arith, right-is c, left-is c, g .covered) }
+    let carried : ℕ → ℤ = λ i. getD (col s .carried) i (pos 0) in
+    let e = outflow-is (carried (s .args .i)) (carried (s .args .i + 1)) in
+    record { deep = g .deep; rich = g .rich; covered = omega (arith, right-is c, left-is c, e, g .covered) }
+
+shares-are : (c : tie.After-shares-of) →
+    c .shares-of .result .right ∷ c .shares-of .result .left ∷ [] ≡ cellShares (col (entry (c .before))) (entry (c .before) .args .i)
+unfolding cellShares parts
+shares-are c =
+    let s = entry (c .before) in
+    let x = col s in
+    let i = s .args .i in
+    c .shares-of .ensures ∙ ap₂ (λ (r l : ℕ). shares (getD (x .mass) i 0) (getD (x .base) i 0) 0 (r ∷ l ∷ [])) (right-is (c .before)) (left-is (c .before))
 
 returns : tie.Need-returns
 returns c =
     let b = c .before in
     let s = entry b in
-    let x = col s in
-    let i = s .args .i in
     let l = b .before .before .before .before .before .before .if1 .taken in
-    let share-of = share (getD (x .mass) i 0) (getD (x .base) i 0) in (
-      c .shares-of .ensures .1 ∙ ap₂ share-of (right-is b) (left-is b) ∙ sym (left-share-is x i) ∙ sym (leftwards-cell x i l),
-      λ _. c .shares-of .ensures .0 ∙ ap (share-of 0) (right-is b) ∙ sym (right-share-is x i),
-    )
+    (ap leftOf (shares-are c) ∙ sym (leftwards-cell (col s) (s .args .i) l), λ _. ap rightOf (shares-are c))
 
 returns-2 : tie.Need-returns-2
 returns-2 c =

@@ -1,13 +1,13 @@
 -- `mass::move_mass` meets its contract: what crosses the next interface is known before a cell is written, and a cell that is not
 -- written yet is read as it came. Assumes nothing.
-use mathlib.Core.Path.{_≡_, refl, sym, ap, _∙_}
+use mathlib.Core.Path.{_≡_, refl, sym, _∙_}
 use denote.Ref.{now}
 use Prim.Native.Nat.{ℕ, _+_, _-_, _≤_, _<_}
 use native.Mathlib.Omega.{arith}
 use borrow.Author.Needs.{needs}
 use lib.ListN.{length, getD}
 use Rattle.numbers.proofs.IndexLaws.{Written, written-none, written-more, written-all}
-use Rattle.mass.specs.Transport.{MassColumns, massColumns, rightShare, leftShare, leftwards, rightwards, movedCell, movedMass}
+use Rattle.mass.specs.Transport.{MassColumns, massColumns, rightShare, leftShare, leftwards, rightwards, movedCell}
 use Rattle.mass.proofs.TransportLaws.{rightwards-next, leftwards-cell, moved-is, shares-fit, mass-small, leftwards-small, rightwards-small, ready-same, right-share-same, leftwards-same}
 use Rattle.mass.proofs.move_mass.Statement.{statement}
 use Rattle.mass.proofs.move_mass.Tie as tie
@@ -67,7 +67,7 @@ facts c =
     let ol = w .3 ∙ leftwards-cell s i l in
     let or = right-now c in
     let nl = next-left c in (
-      omega (arith, shares-fit s i (r .each i) l),
+      omega (arith, shares-fit s i (r .each i .giving l .covered)),
       mass-small s i (r .each i) l,
       omega (arith, w .2, rightwards-small s r i (omega arith)),
       omega (arith, leftwards-small s (i + 1) (r .each (i + 1)) (omega arith)),
@@ -138,7 +138,7 @@ loop-again c =
     let s = col (entry b) in
     let h = w .1 .same i (omega arith) in (
       omega arith,
-      written-more 0 (movedCell s) (s .mass) i _ _ (w .1) (omega arith) (omega (arith, c .moved .ensures, moved-is s i)),
+      written-more 0 (movedCell s) (s .mass) i _ _ (w .1) (omega arith) (omega (arith, c .moved .ensures, moved-is s i (entry b .pre .each i .giving (omega arith) .covered))),
       right-now b ∙ sym (rightwards-next s i),
       next-left b,
       λ l. next-right b l,
@@ -148,7 +148,6 @@ same-length : tie.Need-same-length Inv-loop μ-loop
 same-length c = c .before .loop .inv .1 .long
 
 returns : tie.Need-returns Inv-loop μ-loop
-unfolding movedMass
 returns c =
     let w = c .before .loop .inv in
     let s = col (c .before .before .before .before .before .before) in

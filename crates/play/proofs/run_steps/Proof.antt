@@ -7,16 +7,17 @@ use lib.ListN.{length}
 use borrow.Author.Needs.{needs}
 use Rattle.reach.specs.Reach.{Reach, reachOf}
 use Rattle.reach.specs.Outcome.{Outcome}
-use Rattle.stepping.specs.Step.{step}
+use Rattle.update.specs.Step.{step}
 use Rattle.play.specs.Play.{steps}
-use Rattle.play.proofs.PlayLaws.{left-by-step, steps-on, steps-stop, steps-done}
+use Rattle.stepping.proofs.StepCallLaws.{left-by-step}
+use Rattle.play.proofs.PlayLaws.{steps-on, steps-stop, steps-done}
 use Rattle.play.proofs.run_steps.Statement.{statement}
 use Rattle.play.proofs.run_steps.Tie as tie
 
 abbrev Inv-loop : tie.InvT-loop
-Inv-loop z h₀ q₀ m₀ b₀ c₀ x boundaries count t held₀ i₀ h q m b c held i =
+Inv-loop z h₀ q₀ m₀ b₀ c₀ x count t last₀ i₀ h q m b c last i =
     (i ≤ count)
-    × (steps count t (reachOf z h₀ q₀ m₀ b₀ c₀ x boundaries held₀) ≡ steps (count - i) t (reachOf z h q m b c x boundaries held))
+    × (steps count t (reachOf z h₀ q₀ m₀ b₀ c₀ x last₀) ≡ steps (count - i) t (reachOf z h q m b c x last))
     × (length h ≡ length h₀)
     × (length q ≡ length q₀)
     × (length m ≡ length m₀)
@@ -24,7 +25,7 @@ Inv-loop z h₀ q₀ m₀ b₀ c₀ x boundaries count t held₀ i₀ h q m b c 
     × (length c ≡ length c₀)
 
 abbrev μ-loop : tie.MeasureT-loop
-μ-loop z h₀ q₀ m₀ b₀ c₀ x boundaries count t held₀ i₀ h q m b c held i = count - i
+μ-loop z h₀ q₀ m₀ b₀ c₀ x count t last₀ i₀ h q m b c last i = count - i
 
 abbrev start : tie.At-loop Inv-loop μ-loop → tie.Start Inv-loop μ-loop
 start c = c .before .before .before .before
@@ -33,7 +34,7 @@ start c = c .before .before .before .before
 abbrev reach : tie.At-loop Inv-loop μ-loop → Reach
 reach c =
     let l = c .loop in
-    reachOf (now (start c .args .bed)) (l .depth) (l .discharge) (l .mass) (l .base) (l .carried) (start c .args .x) (start c .args .boundaries) (l .held)
+    reachOf (now (start c .args .bed)) (l .depth) (l .discharge) (l .mass) (l .base) (l .carried) (start c .args .x) (l .last)
 
 loop-holds : tie.Need-loop-holds Inv-loop μ-loop
 loop-holds c =

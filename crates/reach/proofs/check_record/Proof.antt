@@ -18,7 +18,7 @@ use Rattle.reach.proofs.check_record.Tie as tie
 abbrev grounds : tie.Start → List Ground
 grounds s =
     let a = s .args in
-    recordGrounds (reachOf (now (a .bed)) (now (a .depth)) (now (a .discharge)) (now (a .mass)) (now (a .base)) (now (a .carried)) (a .x) (a .t8) (a .ledger)) (a .given)
+    recordGrounds (reachOf (now (a .bed)) (now (a .depth)) (now (a .discharge)) (now (a .mass)) (now (a .base)) (now (a .carried)) (a .x) (a .t8)) (a .given)
 
 abbrev Stands : ℕ → tie.Start → Type 0
 Stands k s = getD (grounds s) k (ground 0 true) .stands ≡ true
@@ -27,36 +27,55 @@ Stands k s = getD (grounds s) k (ground 0 true) .stands ≡ true
 abbrev Rest : ℕ → tie.Start → Type 0
 Rest k s = firstRefusal (grounds s) ≡ firstRefusal (drop k (grounds s))
 
-lengths-fit : (c : tie.After-enum-told) → Stands 0 (c .before .before .before .before .before .before)
+-- from where a ground has stood to where the one before it has
+abbrev four : tie.After-enum-told → tie.Start
+four c = c .before .before .before .before .before .before
+
+abbrev five : tie.After-enum-told3 → tie.After-enum-told
+five c = c .before .before .before
+
+abbrev held : tie.After-enum-told5 → tie.After-enum-told3
+held c = c .before .before .before .before
+
+abbrev given : tie.After-enum-told7 → tie.After-enum-told5
+given c = c .before .before .before
+
+abbrev seven : tie.After-enum-told9 → tie.After-enum-told7
+seven c = c .before .before .before
+
+abbrev eight : tie.After-enum-told11 → tie.After-enum-told9
+eight c = c .before .before .before
+
+lengths-fit : (c : tie.After-enum-told) → Stands 0 (four c)
 lengths-fit c = passed 4 _ _ (c .before .before .check-lengths .ensures) (c .enum-told .given .1)
 
-after-lengths : (c : tie.After-enum-told) → Rest 1 (c .before .before .before .before .before .before)
+after-lengths : (c : tie.After-enum-told) → Rest 1 (four c)
 after-lengths c = go-on _ _ (lengths-fit c) refl
 
-after-cell-length : (c : tie.After-enum-told3) → Rest 2 (c .before .before .before .before .before .before .before .before .before)
+after-cell-length : (c : tie.After-enum-told3) → Rest 2 (four (five c))
 after-cell-length c =
-    after-lengths (c .before .before .before)
+    after-lengths (five c)
     ∙ go-on _ _ (passed 5 _ _ (c .before .before .check-cell-length .ensures) (c .enum-told3 .given .1)) refl
 
-after-held : (c : tie.After-enum-told5) → Rest 3 (c .before .before .before .before .before .before .before .before .before .before .before .before)
+after-held : (c : tie.After-enum-told5) → Rest 3 (four (five (held c)))
 after-held c =
-    after-cell-length (c .before .before .before)
+    after-cell-length (held c)
     ∙ go-on _ _ (passed 6 _ _ (c .before .before .check-boundaries .ensures) (c .enum-told5 .given .1)) refl
 
-after-given : (c : tie.After-enum-told7) → Rest 4 (c .before .before .before .before .before .before .before .before .before .before .before .before .before .before .before)
+after-given : (c : tie.After-enum-told7) → Rest 4 (four (five (held (given c))))
 after-given c =
-    after-held (c .before .before .before)
+    after-held (given c)
     ∙ go-on _ _ (passed 6 _ _ (c .before .before .check-boundaries2 .ensures) (c .enum-told7 .given .1)) refl
 
-cells-fit : (c : tie.After-enum-told9) → Stands 4 (c .before .before .before .before .before .before .before .before .before .before .before .before .before .before .before .before .before .before)
+cells-fit : (c : tie.After-enum-told9) → Stands 4 (four (five (held (given (seven c)))))
 cells-fit c = passed 7 _ _ (c .before .before .check-cells .ensures) (c .enum-told9 .given .1)
 
-after-cells : (c : tie.After-enum-told9) → Rest 5 (c .before .before .before .before .before .before .before .before .before .before .before .before .before .before .before .before .before .before)
-after-cells c = after-given (c .before .before .before) ∙ go-on _ _ (cells-fit c) refl
+after-cells : (c : tie.After-enum-told9) → Rest 5 (four (five (held (given (seven c)))))
+after-cells c = after-given (seven c) ∙ go-on _ _ (cells-fit c) refl
 
-after-carried : (c : tie.After-enum-told11) → Rest 6 (c .before .before .before .before .before .before .before .before .before .before .before .before .before .before .before .before .before .before .before .before .before)
+after-carried : (c : tie.After-enum-told11) → Rest 6 (four (five (held (given (seven (eight c))))))
 after-carried c =
-    after-cells (c .before .before .before)
+    after-cells (eight c)
     ∙ go-on _ _ (passed 8 _ _ (c .before .before .check-carried .ensures) (c .enum-told11 .given .1)) refl
 
 check-lengths-requires : tie.Need-check-lengths-requires
@@ -95,7 +114,7 @@ enum-told-6 c = search needs
 
 returns-3 : tie.Need-returns-3
 returns-3 c =
-    sym (after-cell-length (c .before .before .before) ∙ stop-at _ _ (refused-by 6 _ _ _ (c .before .before .check-boundaries .ensures) (c .enum-told6 .given .1)))
+    sym (after-cell-length (c .before .before .before .before) ∙ stop-at _ _ (refused-by 6 _ _ _ (c .before .before .check-boundaries .ensures) (c .enum-told6 .given .1)))
 
 check-boundaries-requires-2 : tie.Need-check-boundaries-requires-2
 check-boundaries-requires-2 c κs = search needs
@@ -112,7 +131,7 @@ returns-4 c =
 
 check-cells-requires : tie.Need-check-cells-requires
 check-cells-requires c κs =
-    let n = lengths-sound _ _ _ _ _ _ (lengths-fit (c .before .before .before .before .before .before .before .before .before)) in
+    let n = lengths-sound _ _ _ _ _ _ (lengths-fit (five (held (given c)))) in
     record { depths = n .depths; discharges = n .discharges; masses = n .masses; bases = n .bases }
 
 enum-told-9 : tie.Need-enum-told-9
@@ -133,7 +152,7 @@ element-copy-out-check-carried-2 c = search needs
 
 check-carried-requires : tie.Need-check-carried-requires
 check-carried-requires c κs =
-    let n = lengths-sound _ _ _ _ _ _ (lengths-fit (c .before .before .before .before .before .before .before .before .before .before .before .before)) in
+    let n = lengths-sound _ _ _ _ _ _ (lengths-fit (five (held (given (seven c))))) in
     let cell = cells-sound _ _ _ _ _ (cells-fit c) in
     record {
       some = omega arith;
@@ -157,7 +176,7 @@ check-ledger-requires : tie.Need-check-ledger-requires
 check-ledger-requires c κs = search needs
 
 returns-7 : tie.Need-returns-7
-returns-7 c = c .check-ledger .ensures ∙ sym (after-carried (c .before) ∙ last-one 9 _)
+returns-7 c = c .check-ledger .ensures ∙ sym (after-carried (c .before .before) ∙ last-one 9 _)
 
 pub check-record-spec : {M : Type 1} → statement M
 check-record-spec =

@@ -1,11 +1,10 @@
 -- `transport::enter` meets its contract. Assumes nothing.
 use mathlib.Core.Path.{_≡_, sym, ap, ap₂, _∙_}
-use borrow.Author.Tests.{not-false}
 use Rattle.reach.specs.Grounds.{ledgerFits}
 use Rattle.reach.specs.declared.ledger.Totals.{Totals}
-use Rattle.reach.specs.declared.ledger.Ledger.{Ledger}
 use Rattle.reach.proofs.Sound.{totals-sound, ledger-left, ledger-right}
-use Rattle.transport.specs.Calls.{ledgerWith, pickEntered}
+use Rattle.transport.specs.Calls.{ledgerWith}
+use Rattle.transport.specs.Calls.{pickEntered}
 use borrow.Author.Needs.{needs}
 use Rattle.transport.proofs.enter.Statement.{statement}
 use Rattle.transport.proofs.enter.Tie as tie

@@ -3,15 +3,15 @@ use mathlib.Core.Path.{_≡_, refl, sym, ap, ap₂, _∙_, subst}
 use Prim.Native.Nat.{ℕ}
 use denote.Ref.{now}
 use native.Mathlib.Omega.{arith}
-use Rattle.mass.specs.Transport.{MassColumns, massColumns, movedMass}
-use Rattle.mass.specs.Ranges.{Ready}
-use Rattle.reach.specs.Reach.{Reach, reachOf}
+use Rattle.mass.specs.Transport.{MassColumns, massColumns}
+use Rattle.mass.specs.Ranges.{Ready, movedMass}
+use Rattle.reach.specs.Reach.{Reach, reachOf, withBoundaries, withLedger}
 use Rattle.reach.specs.Grounds.{firstRefusal, recordGrounds, ledgerFits, numberOf}
 use Rattle.reach.specs.declared.ledger.Ledger.{Ledger}
 use Rattle.reach.specs.declared.refusal.Check.the-variants.{Pass}
 use Rattle.reach.proofs.Sound.{Sound, sound}
-use Rattle.transport.specs.Calls.{massColumnsOf, answer, ledgerWith, transportLedger, afterTransport}
-use Rattle.transport.specs.Ranges.{BoundaryMassOf}
+use Rattle.transport.specs.Calls.{massColumnsOf, ledgerWith, transportLedger, afterTransport, holding}
+use Rattle.transport.specs.Ranges.{BoundaryMassOf, answer}
 use Rattle.transport.proofs.CallsLaws.{ready, columns-with, small, ledger-is, stopped, full, accepted, entered-refused, entered-accepted}
 use borrow.Author.Needs.{needs}
 use Rattle.transport.proofs.set_boundaries.Statement.{statement}
@@ -24,11 +24,11 @@ abbrev start : tie.After-enum-told → tie.Start
 start c = entry (c .before .before)
 
 abbrev told : tie.After-boundary-mass-of → tie.After-enum-told
-told c = c .before .before .before .before
+told c = c .before .before .before .before .before .before
 
 abbrev reach : tie.Start → Reach
 reach s =
-    reachOf (now (s .args .bed)) (now (s .args .depth)) (now (s .args .discharge)) (now (s .args .mass)) (now (s .args .base)) (now (s .args .carried)) (s .args .x) (s .args .boundaries) (s .args .ledger)
+    reachOf (now (s .args .bed)) (now (s .args .depth)) (now (s .args .discharge)) (now (s .args .mass)) (now (s .args .base)) (now (s .args .carried)) (s .args .x) (s .args .held)
 
 passed : (c : tie.After-enum-told) → firstRefusal (recordGrounds (reach (start c)) (start c .args .given)) ≡ Pass
 passed c = sym (c .before .before .check-record .ensures) ∙ c .enum-told .given .1
@@ -47,7 +47,7 @@ crossed c =
 
 ledger-entered : (c : tie.After-boundary-mass-of) →
     let x = c .boundary-mass-of .result in
-    ledgerWith (start (told c) .args .ledger) (x .«left_in») (x .«left_out») (x .«right_in») (x .«right_out») ≡ transportLedger (reach (start (told c)))
+    ledgerWith (start (told c) .args .held .ledger) (x .«left_in») (x .«left_out») (x .«right_in») (x .«right_out») ≡ transportLedger (reach (start (told c)))
 ledger-entered c = ledger-is (reach (start (told c))) (checked (told c)) _ _ _ _ (crossed c)
 
 -- the columns with what enters, as the code computed it
@@ -61,10 +61,10 @@ entering c =
 
 answered-by : (c : tie.After-refused) →
     let s = entry (c .before .before .before) .args in
-    c .refused .result ≡ answer (c .before .enum-told2 .given .0 .0) (s .boundaries) (s .ledger)
+    c .refused .result ≡ answer (c .before .enum-told2 .given .0 .0) (s .held)
 answered-by c =
     let s = entry (c .before .before .before) .args in
-    c .refused .ensures ∙ ap (λ k. answer (numberOf k) (s .boundaries) (s .ledger)) (c .before .enum-told2 .given .1)
+    c .refused .ensures ∙ ap (λ k. answer (numberOf k) (s .held)) (c .before .enum-told2 .given .1)
 
 check-record-requires : tie.Need-check-record-requires
 check-record-requires c κs = search needs
@@ -95,8 +95,7 @@ returns c =
     rw (stopped (reach (entry k)) (entry k .args .given) (t .0 .0) (sym (k .check-record .ensures) ∙ t .1))
     (record {
       refusal-is = ap (λ r. r .refusal) a;
-      boundaries-are = ap (λ r. r .boundaries) a;
-      ledger-is = ap (λ r. r .ledger) a;
+      held-is = ap (λ r. r .held) a;
       mass-is = refl;
       base-is = refl;
       carried-is = refl;
@@ -104,7 +103,7 @@ returns c =
 
 boundary-mass-of-requires : tie.Need-boundary-mass-of-requires
 boundary-mass-of-requires c κs =
-    let e = c .before .before .before in
+    let e = c .before .before .before .before .before in
     let k = checked e in (
       subst Ready (sym (columns-with (reach (start e)) k)) (ready (reach (start e)) k),
       omega (arith, k .some, k .masses),
@@ -134,7 +133,7 @@ returns-2 c =
     let s = start (told x) in
     let q = entered-refused _ _ _ _ (c .before .before .enter .ensures) (c .enum-told3 .given .1) in
     rw (full (reach s) (s .args .given) (passed (told x)) (ap ledgerFits (sym (ledger-entered x)) ∙ q))
-    (record { refusal-is = refl; boundaries-are = refl; ledger-is = refl; mass-is = refl; base-is = refl; carried-is = refl })
+    (record { refusal-is = refl; held-is = refl; mass-is = refl; base-is = refl; carried-is = refl })
 
 commit-requires : tie.Need-commit-requires
 commit-requires c κs =
@@ -154,7 +153,7 @@ same-length-9 : tie.Need-same-length-9
 same-length-9 c = search needs
 
 returns-3 : tie.Need-returns-3
-unfolding afterTransport
+unfolding afterTransport holding
 returns-3 c =
     let x = c .before .before .before .before .before .before .before .before .before .before .before .before .before in
     let s = start (told x) in
@@ -163,8 +162,7 @@ returns-3 c =
     rw (accepted (reach s) (s .args .given) (passed (told x)) (ap ledgerFits (sym (ledger-entered x)) ∙ q .0))
     (record {
       refusal-is = refl;
-      boundaries-are = refl;
-      ledger-is = q .1 ∙ ledger-entered x;
+      held-is = ap (λ (k : Ledger). withBoundaries (s .args .given) (withLedger k (s .args .held))) (q .1 ∙ ledger-entered x);
       mass-is = d .commit .ensures .0 ∙ ap movedMass (sym (entering x));
       base-is = d .commit .ensures .1 .0;
       carried-is = d .commit .ensures .1 .1;

@@ -1,5 +1,5 @@
 -- `transport::transport` meets its contract: the setting of the boundaries that are held. Assumes nothing.
-use Rattle.transport.specs.Calls.{transport}
+use Rattle.transport.proofs.CallsLaws.{transport-is}
 use borrow.Author.Needs.{needs}
 use Rattle.transport.proofs.transport.Statement.{statement}
 use Rattle.transport.proofs.transport.Tie as tie
@@ -17,8 +17,9 @@ same-length-3 : tie.Need-same-length-3
 same-length-3 c = search needs
 
 returns : tie.Need-returns
-unfolding transport
-returns c = c .before .before .before .before .before .set-boundaries .ensures
+returns c =
+    let k = c .before .before .before .before .before .set-boundaries in
+    rw (transport-is _) (k .ensures)
 
 pub transport-spec : {M : Type 1} → statement M
 transport-spec =

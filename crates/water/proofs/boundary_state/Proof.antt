@@ -28,13 +28,13 @@ returns c =
     let s = c .before .before .before in
     rw (toZ-ofZ (record { sfits = c .struct-told .given .0 .1 })) (
       turned-fits (s .args .c) (s .pre .0),
-      turned-side (s .args .c) ∙ sym (boundary-wall (s .args .e) (sideOf (s .args .c)) (c .before .if1 .taken)),
+      turned-side (s .args .c) ∙ sym (boundary-wall (s .args .p) (s .args .e) (sideOf (s .args .c)) (c .before .if1 .taken)),
     )
 
 returns-2 : tie.Need-returns-2
 returns-2 c =
     let s = c .before .before .before .before in
-    (s .pre .0, sym (boundary-open (s .args .e) (sideOf (s .args .c)) (c .before .before .if1 .left) (c .if2 .taken)))
+    (s .pre .0, sym (boundary-open (s .args .p) (s .args .e) (sideOf (s .args .c)) (c .before .before .if1 .left) (c .if2 .taken)))
 
 cell-state-requires : tie.Need-cell-state-requires
 cell-state-requires c κs =
@@ -48,7 +48,7 @@ returns-3 c =
     rw (toZ-ofZ (record { sfits = c .before .before .struct-told2 .given .0 .1 }), toZ-ofZ (record { sfits = c .before .struct-told3 .given .1 .1 .1 .1 .0 .1 }))
     at (c .cell-state .ensures .1)
     in
-    (c .cell-state .ensures .0, f ∙ sym (boundary-fed (s .args .e) (sideOf (s .args .c)) (c .before .before .before .before .before .if1 .left) (c .before .before .before .if2 .left)))
+    (c .cell-state .ensures .0, f ∙ sym (boundary-fed (s .args .p) (s .args .e) (sideOf (s .args .c)) (c .before .before .before .before .before .if1 .left) (c .before .before .before .if2 .left)))
 
 pub boundary-state-spec : {M : Type 1} → statement M
 boundary-state-spec = tie.close (tie.spec returns returns-2 cell-state-requires returns-3)

@@ -4,7 +4,7 @@ use Prim.Native.Nat.{ℕ}
 use native.Mathlib.Omega.{arith}
 use lib.IntN.{ℤ, subℕ}
 use mir.Facts.{toZ-ofZ}
-use Rattle.numbers.proofs.SignedLaws.{abs-parts, parts}
+use Rattle.numbers.proofs.SignedLaws.{abs-parts, two-parts}
 use Rattle.flux.specs.Velocity.{velocity}
 use Rattle.flux.specs.Interface.{Side}
 use Rattle.flux.proofs.VelocityLaws.{velocity-most}
@@ -36,7 +36,7 @@ returns c =
         right-most = omega arith;
         left-most = omega arith;
       },
-      side-at (s .args .z) (s .args .h) (ap₂ subℕ (v .0) (v .1) ∙ sym (parts u)),
+      side-at (s .args .z) (s .args .h) (ap₂ subℕ (v .0) (v .1) ∙ sym (two-parts u)),
     )
 
 pub cell-state-spec : {M : Type 1} → statement M

@@ -1,4 +1,4 @@
--- `driver::words::boundaries_from` meets its contract. Assumes nothing.
+-- `script::words::boundaries_from` meets its contract. Assumes nothing.
 use mathlib.Core.Path.{refl}
 use borrow.Author.Needs.{needs}
 use Rattle.script.proofs.words.boundaries_from.Statement.{statement}

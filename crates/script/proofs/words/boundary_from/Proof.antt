@@ -1,10 +1,12 @@
--- `driver::words::boundary_from` meets its contract. Assumes nothing.
+-- `script::words::boundary_from` meets its contract. Assumes nothing.
 use mathlib.Core.Path.{refl}
-use Prim.Native.Nat.{_+_}
+use Prim.Native.Nat.{ℕ, _<_}
 use native.Mathlib.Omega.{arith}
+use denote.Ref.{now}
+use lib.ListN.{getD}
 use mir.Facts.{toZ-ofZ}
 use borrow.Author.Needs.{needs, sfits-of}
-use Rattle.sheet.specs.Bytes.{twos}
+use Rattle.encoding.specs.FromBytes.{twos}
 use Rattle.script.specs.Script.{boundaryFrom}
 use Rattle.script.proofs.words.boundary_from.Statement.{statement}
 use Rattle.script.proofs.words.boundary_from.Tie as tie
@@ -57,11 +59,12 @@ mul-twos-in c = search needs
 shared-slice-read-twos-in : tie.Need-shared-slice-read-twos-in
 shared-slice-read-twos-in c = search needs
 
+-- whichever word it is
+below : (c : tie.After-shared-slice-known6) (i : ℕ) → getD (now (c .before .before .before .before .before .before .args .words)) i 0 < 18_446_744_073_709_551_616
+below c i = let l = c .shared-slice-known6 .given i in omega (arith, l)
+
 twos-in-requires : tie.Need-twos-in-requires
-twos-in-requires c κs =
-    let a = c .before .before .before .before .before .before .args in
-    let l = c .shared-slice-known6 .given (a .at + 4) in
-    (omega arith, omega (arith, l))
+twos-in-requires c κs = (omega arith, below c _)
 
 returns : tie.Need-returns
 unfolding boundaryFrom twos

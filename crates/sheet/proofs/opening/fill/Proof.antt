@@ -5,7 +5,7 @@ use native.Mathlib.Omega.{arith}
 use lib.ListN.{length}
 use denote.Ref.{now}
 use borrow.Author.Needs.{needs}
-use Rattle.sheet.specs.Bytes.{twos, columnAt}
+use Rattle.encoding.specs.FromBytes.{twos, columnAt}
 use Rattle.sheet.proofs.opening.fill.Statement.{statement}
 use Rattle.sheet.proofs.opening.fill.Tie as tie
 

@@ -12,7 +12,7 @@ use Rattle.reach.specs.Grounds.{firstRefusal, numberOf}
 use Rattle.reach.specs.declared.refusal.Check.{Check}
 use Rattle.reach.specs.declared.refusal.Check.the-variants.{Pass}
 use Rattle.reach.proofs.GroundsLaws.{stood}
-use Rattle.sheet.specs.Bytes.{twos, columnAt}
+use Rattle.encoding.specs.FromBytes.{twos, columnAt}
 use Rattle.sheet.specs.Header.{headerSize, countOf}
 use Rattle.sheet.specs.Ranges.{Within}
 use Rattle.sheet.specs.Opening.{sheetRecord, lent, openGrounds, unopenedBy}
@@ -74,45 +74,41 @@ fill-requires c κs =
 cell-length-of-requires : tie.Need-cell-length-of-requires
 cell-length-of-requires c κs = long (c .before .before .before .before .before .before .before .before .before .before .before .before .before .before .before .before .before)
 
-read-boundaries-requires : tie.Need-read-boundaries-requires
-read-boundaries-requires c κs = long (c .before .before .before .before .before .before .before .before .before .before .before .before .before .before .before .before .before .before)
-
-empty-ledger-requires : tie.Need-empty-ledger-requires
-empty-ledger-requires c κs = search needs
+held-of-requires : tie.Need-held-of-requires
+held-of-requires c κs = long (c .before .before .before .before .before .before .before .before .before .before .before .before .before .before .before .before .before .before)
 
 same-length : tie.Need-same-length
-same-length c = c .before .before .before .before .before .before .before .before .before .before .before .before .fill .kept .1 .1 .0
+same-length c = c .before .before .before .before .before .before .before .before .before .before .before .fill .kept .1 .1 .0
 
 same-length-2 : tie.Need-same-length-2
-same-length-2 c = c .before .before .before .before .before .before .before .before .before .before .before .before .fill .kept .1 .1 .1 .0
+same-length-2 c = c .before .before .before .before .before .before .before .before .before .before .before .fill .kept .1 .1 .1 .0
 
 same-length-3 : tie.Need-same-length-3
-same-length-3 c = c .before .before .before .before .before .before .before .before .before .before .before .before .fill .kept .1 .1 .1 .1 .0
+same-length-3 c = c .before .before .before .before .before .before .before .before .before .before .before .fill .kept .1 .1 .1 .1 .0
 
 same-length-4 : tie.Need-same-length-4
-same-length-4 c = c .before .before .before .before .before .before .before .before .before .before .before .before .fill .kept .1 .1 .1 .1 .1 .0
+same-length-4 c = c .before .before .before .before .before .before .before .before .before .before .before .fill .kept .1 .1 .1 .1 .1 .0
 
 same-length-5 : tie.Need-same-length-5
-same-length-5 c = c .before .before .before .before .before .before .before .before .before .before .before .before .fill .kept .1 .1 .1 .1 .1 .1 .0
+same-length-5 c = c .before .before .before .before .before .before .before .before .before .before .before .fill .kept .1 .1 .1 .1 .1 .1 .0
 
 same-length-6 : tie.Need-same-length-6
-same-length-6 c = c .before .before .before .before .before .before .before .before .before .before .before .before .fill .kept .1 .1 .1 .1 .1 .1 .1 .0
+same-length-6 c = c .before .before .before .before .before .before .before .before .before .before .before .fill .kept .1 .1 .1 .1 .1 .1 .1 .0
 
 returns-2 : tie.Need-returns-2
 unfolding sheetRecord
 returns-2 c =
-    let s = c .before .before .before .before .before .before .before .before .before .before .before .before .before .before .before .before .before .before .before .before .before .before .before .before .before .before .before in
+    let s = c .before .before .before .before .before .before .before .before .before .before .before .before .before .before .before .before .before .before .before .before .before .before .before .before .before .before in
     let sheet = now (s .args .s) in
-    let n = lengths (c .before .before .before .before .before .before .before .before .before .before .before .before .before .before .before .before .before .before .before .before) in
-    let l = c .before .before .before .before .before .before .before .before .before .before .before .before .before .before .before .before .before .before .before .layout-of .ensures in
-    let f = c .before .before .before .before .before .before .before .before .before .before .before .before .fill .ensures in
+    let n = lengths (c .before .before .before .before .before .before .before .before .before .before .before .before .before .before .before .before .before .before .before) in
+    let l = c .before .before .before .before .before .before .before .before .before .before .before .before .before .before .before .before .before .before .layout-of .ensures in
+    let f = c .before .before .before .before .before .before .before .before .before .before .before .fill .ensures in
     let depths = f .1 .0 ∙ ap₂ (columnAt (λ v. v) 4 sheet) (l .depths-are) (n .beds) in
-    rw (accepted sheet (columns s) (checked (c .before .before .before .before .before .before .before .before .before .before .before .before .before .before .before .before .before .before .before .before)))
+    rw (accepted sheet (columns s) (checked (c .before .before .before .before .before .before .before .before .before .before .before .before .before .before .before .before .before .before .before)))
     (record {
       refusal-is = refl;
-      length-is = c .before .before .cell-length-of .ensures;
-      boundaries-are = c .before .read-boundaries .ensures;
-      ledger-is = c .empty-ledger .ensures;
+      length-is = c .before .cell-length-of .ensures;
+      held-is = c .held-of .ensures;
       bed-is = f .0 ∙ ap₂ (columnAt (twos 4) 4 sheet) (l .beds-are) (n .beds);
       depth-is = depths;
       discharge-is = f .1 .1 .0 ∙ ap₂ (columnAt (twos 8) 8 sheet) (l .discharges-are) (n .beds);
@@ -133,8 +129,7 @@ open-sheet-spec =
     layout-of-requires
     fill-requires
     cell-length-of-requires
-    read-boundaries-requires
-    empty-ledger-requires
+    held-of-requires
     same-length
     same-length-2
     same-length-3

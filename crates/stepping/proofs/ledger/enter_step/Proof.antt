@@ -10,13 +10,14 @@ use Rattle.reach.specs.Limits.{totalMost}
 use Rattle.reach.specs.Grounds.{ledgerFits}
 use Rattle.reach.specs.declared.ledger.Totals.{Totals}
 use Rattle.reach.proofs.Sound.{totals-sound, ledger-left, ledger-right}
-use Rattle.transport.specs.Calls.{ledgerWith, withMass, pickEntered}
-use Rattle.stepping.specs.Step.{withWater, withBoundaryWater}
+use Rattle.transport.specs.Calls.{ledgerWith, withMass}
+use Rattle.transport.specs.Calls.{pickEntered}
+use Rattle.update.specs.Step.{withWater, withBoundaryWater}
 use borrow.Author.Needs.{needs}
 use Rattle.stepping.proofs.ledger.enter_step.Statement.{statement}
 use Rattle.stepping.proofs.ledger.enter_step.Tie as tie
 
--- ---- the parts of N at both ends
+-- ---- the parts of N at both boundaries
 
 first-right : (c : tie.After-right-part) → c .right-part .result ≡ positive (c .before .before .before .before .before .args .first)
 first-right c = rw (toZ-ofZ (c .before .before .before .before .before .fits .first)) at (c .right-part .ensures)
@@ -44,7 +45,7 @@ water-right c =
     let t = totals-sound (c .before .before .before .before .args .k .right) (ledger-right _ (c .before .before .before .before .pre .0 .0)) in
     (rw (ap (λ (r : Totals). r .«water_in») (c .with-mass2 .ensures)) (t .waterIn), rw (ap (λ (r : Totals). r .«water_out») (c .with-mass2 .ensures)) (t .waterOut))
 
--- ---- the totals of both ends, and the ledger
+-- ---- the totals of both boundaries, and the ledger
 
 left-is : (c : tie.After-with-water) →
     let s = c .before .before .before .before .before .before .before .args in

@@ -1,6 +1,6 @@
 -- `stepping::ledger::with_water` meets its contract. Assumes nothing.
 use mathlib.Core.Path.{refl}
-use Rattle.stepping.specs.Step.{withWater}
+use Rattle.update.specs.Step.{withWater}
 use borrow.Author.Needs.{needs}
 use Rattle.stepping.proofs.ledger.with_water.Statement.{statement}
 use Rattle.stepping.proofs.ledger.with_water.Tie as tie

@@ -19,25 +19,27 @@ use Rattle.reach.specs.Grounds.{ledgerFits}
 use Rattle.reach.specs.declared.ledger.Ledger.{Ledger}
 use Rattle.reach.proofs.GroundsLaws.{passed, refused-by}
 use Rattle.reach.proofs.Sound.{Sound, sound}
-use Rattle.transport.specs.Calls.{massColumnsOf, pickEntered}
+use Rattle.transport.specs.Calls.{massColumnsOf}
+use Rattle.transport.specs.Calls.{pickEntered}
 use Rattle.transport.proofs.CallsLaws.{ready, columns-with, entered-refused, entered-accepted}
 use Rattle.water.specs.Ranges.{flowOf, Swept, sidesMeet}
 use Rattle.water.proofs.WaterLaws.{sides-same, swept-same}
-use Rattle.stepping.specs.GreatestStep.{placeSpeed}
-use Rattle.stepping.specs.Step.{keepsSums, transportedFirst, withBoundaryWater, stepLedger, afterStep, depthsFit, step, stoppedBy, StepCameTo}
+use Rattle.timestep.specs.GreatestStep.{placeSpeed}
+use Rattle.update.specs.Step.{keepsSums, transportedFirst, withBoundaryWater, stepLedger, afterStep, depthsFit, step}
+use Rattle.stepping.specs.StepCall.{stoppedBy, StepCameTo}
 use Rattle.stepping.specs.Ranges.{BoundaryMassWhen}
 use Rattle.stepping.specs.declared.step.StepAnswer.{StepAnswer}
-use Rattle.stepping.proofs.StepCallLaws.{mesh, water-fits, met-is, depths-are, sums-are, net-at, summable, depth-written, discharge-written, carried-written, addable, small-when, ready-when, ledger-after, mass-when, base-when, carried-when, stopped-11, stopped-12, stopped-13, stepped-on, stayed, came}
+use Rattle.stepping.proofs.StepCallLaws.{mesh, water-fits, met-is, depths-are, sums-are, net-at, summable, depth-written, discharge-written, carried-written, addable, small-when, ready-when, ledger-after, mass-when, base-when, carried-when, stopped-11, stopped-12, stopped-13, stepped-on, stayed, came-out}
 use Rattle.stepping.proofs.step.advance.Statement.{statement}
 use Rattle.stepping.proofs.step.advance.Tie as tie
 
 -- the record as it came, and that it is sound
 abbrev reach : tie.Start → Reach
 reach s =
-    reachOf (now (s .args .bed)) (now (s .args .depth)) (now (s .args .discharge)) (now (s .args .mass)) (now (s .args .base)) (now (s .args .carried)) (s .args .x) (s .args .boundaries) (s .args .ledger)
+    reachOf (now (s .args .bed)) (now (s .args .depth)) (now (s .args .discharge)) (now (s .args .mass)) (now (s .args .base)) (now (s .args .carried)) (s .args .x) (s .args .held)
 
 whole : (s : tie.Start) → Sound (reach s)
-whole s = sound (reach s) (s .args .boundaries) (s .pre .0)
+whole s = sound (reach s) (s .args .held .boundaries) (s .pre .0)
 
 fine : (s : tie.Start) → Mesh (s .args .t) (s .args .x)
 fine s = mesh (reach s) (whole s) (s .args .t) (s .pre .1)
@@ -45,7 +47,7 @@ fine s = mesh (reach s) (whole s) (s .args .t) (s .pre .1)
 -- ---- after the sweep
 
 abbrev entry : tie.After-sweep → tie.Start
-entry c = c .before .before .before .before .before .before .before .before .before
+entry c = c .before .before .before .before .before .before .before .before .before .before .before
 
 abbrev net : tie.After-sweep → List ℤ
 net c = c .sweep .last .1 .1 .1 .1 .1 .1 .0
@@ -72,7 +74,7 @@ discharge-length c = c .sweep .kept .1 .1 .1 .1 .1 .1 .1 .1 .0
 abbrev met : tie.Start → Bool
 met s = meetsCfl (placeSpeed (reach s)) (cells (reach s) + 1) (s .args .x) (s .args .t)
 
-met-same : (s : tie.Start) {v : Bool} → sidesMeet (flowOf (now (s .args .bed)) (now (s .args .depth)) (now (s .args .discharge)) (s .args .x) (s .args .boundaries)) (s .args .t) ≡ v → met s ≡ v
+met-same : (s : tie.Start) {v : Bool} → sidesMeet (flowOf (now (s .args .bed)) (now (s .args .depth)) (now (s .args .discharge)) (s .args .x) (s .args .held .boundaries)) (s .args .t) ≡ v → met s ≡ v
 met-same s e = sym (met-is (reach s) (whole s) (s .args .t)) ∙ sym (sides-same (reach s) (s .args .t)) ∙ e
 
 cfl : (c : tie.After-enum-told) → met (entry (c .before .before .before .before .before)) ≡ true
@@ -85,7 +87,7 @@ deep c =
     sym (depths-are (reach (entry w)) (whole (entry w)) (entry w .args .t) (net w) (depth w) (discharge w) (swept w))
     ∙ passed 12 _ _ (c .before .before .check-depths .ensures) (c .enum-told3 .given .1)
 
--- the settling test
+-- the transport test
 transporting : (c : tie.After-keeps-sums) → not (c .keeps-sums .result) ≡ not (keepsSums (reach (entry (c .before .before .before .before .before .before .before .before .before .before .before .before .before))) (entry (c .before .before .before .before .before .before .before .before .before .before .before .before .before) .args .t))
 transporting c =
     let w = c .before .before .before .before .before .before .before .before .before .before .before .before .before in
@@ -115,7 +117,7 @@ entered c =
     (ledger-after (reach s) (whole s) (s .args .t) (not (c .before .before .before .before .before .before .before .keeps-sums .result)) (transporting (c .before .before .before .before .before .before .before)) (x .«left_in») (x .«left_out») (x .«right_in») (x .«right_out») (crossed (c .before .before .before))
     _ _ (swept w .nets 0 (omega arith)) (swept w .nets (cells (reach s)) (omega arith)))
 
--- the carried water after the settling inside the step
+-- the carried water after the transport inside the step
 abbrev carried : tie.After-transport-when → List ℤ
 carried c = c .transport-when .last .1 .1 .1 .1 .0
 
@@ -138,7 +140,7 @@ slice-aggregate-sweep-3 c = search needs
 
 sweep-requires : tie.Need-sweep-requires
 sweep-requires c κs =
-    let s = c .before .before .before .before .before .before .before .before in
+    let s = c .before .before .before .before .before .before .before .before .before .before in
     let n = whole s .few in
     ((fine s, water-fits (reach s) (whole s)), (omega (arith, n), (omega (arith, n), omega (arith, n))))
 
@@ -322,7 +324,7 @@ returns-4 c =
     let wrote = c .before .before .before .before .write-step .ensures in
     let moved = c .before .before .before .before .before .before .before .before .before .before .before .before .before .before .before .before .transport-when .ensures in
     let ledger-entered = entered-accepted _ _ _ _ (entered (c .before .before .before .before .before .before .before .before .before .before .before .before .before .before .before .before .before .before .before .before .before .before .before .before)) (c .before .before .before .before .before .before .before .before .before .before .before .before .before .before .before .before .before .before .before .before .before .before .next .given .1) in
-    came (reach s) t
+    came-out (reach s) t
     (stepped-on (reach s) t (s .pre .0) (s .pre .1) (cfl (c .before .before .before .before .before .before .before .before .before .before .before .before .before .before .before .before .before .before .before .before .before .before .before .before .before .before .before .before .before .before .before .before .before .before .before .before .before .before .before)) (deep (c .before .before .before .before .before .before .before .before .before .before .before .before .before .before .before .before .before .before .before .before .before .before .before .before .before .before .before .before .before .before .before .before .before .before .before)) (ledger-entered .0))
     (ledger-entered .1)
     e

@@ -3,7 +3,7 @@ use mathlib.Core.Path.{_∙_}
 use borrow.Author.Tests.{le-leb, lt-leb}
 use Rattle.numbers.proofs.IndexLaws.{on, off, only}
 use Rattle.reach.proofs.GroundsLaws.{passes, refuses}
-use Rattle.stepping.specs.Step.{timeFits}
+use Rattle.update.specs.Step.{timeFits}
 use Rattle.stepping.proofs.step.check_time.Statement.{statement}
 use Rattle.stepping.proofs.step.check_time.Tie as tie
 

@@ -9,26 +9,26 @@ use Rattle.reach.specs.Grounds.{firstRefusal, recordGrounds, numberOf}
 use Rattle.reach.specs.declared.refusal.Check.{Check}
 use Rattle.reach.specs.declared.refusal.Check.the-variants.{Pass}
 use Rattle.reach.proofs.GroundsLaws.{passed, refused-by}
-use Rattle.stepping.specs.Step.{stoppedBy, StepCameTo}
+use Rattle.stepping.specs.StepCall.{stoppedBy, StepCameTo}
 use Rattle.stepping.specs.declared.step.StepAnswer.{StepAnswer}
 use Rattle.stepping.proofs.StepCallLaws.{stopped-before, stopped-10, stayed, refused-positive}
 use Rattle.stepping.proofs.step.step.Statement.{statement}
 use Rattle.stepping.proofs.step.step.Tie as tie
 
 abbrev entry : tie.After-check-record → tie.Start
-entry c = c .before .before .before .before .before .before .before .before .before
+entry c = c .before .before .before .before .before .before .before .before .before .before
 
 abbrev reach : tie.Start → Reach
 reach s =
-    reachOf (now (s .args .bed)) (now (s .args .depth)) (now (s .args .discharge)) (now (s .args .mass)) (now (s .args .base)) (now (s .args .carried)) (s .args .x) (s .args .boundaries) (s .args .ledger)
+    reachOf (now (s .args .bed)) (now (s .args .depth)) (now (s .args .discharge)) (now (s .args .mass)) (now (s .args .base)) (now (s .args .carried)) (s .args .x) (s .args .held)
 
 -- a refused step, whatever its answer is called
-as-it-came : (s : tie.Start) (r : StepAnswer) (n : ℕ) → r ≡ stoppedBy n (s .args .boundaries) (s .args .ledger)
-    → StepCameTo (reach s) (s .args .t) (stoppedBy n (s .args .boundaries) (s .args .ledger)) (now (s .args .depth)) (now (s .args .discharge)) (now (s .args .mass)) (now (s .args .base)) (now (s .args .carried))
+as-it-came : (s : tie.Start) (r : StepAnswer) (n : ℕ) → r ≡ stoppedBy n (s .args .held)
+    → StepCameTo (reach s) (s .args .t) (stoppedBy n (s .args .held)) (now (s .args .depth)) (now (s .args .discharge)) (now (s .args .mass)) (now (s .args .base)) (now (s .args .carried))
     → StepCameTo (reach s) (s .args .t) r (now (s .args .depth)) (now (s .args .discharge)) (now (s .args .mass)) (now (s .args .base)) (now (s .args .carried))
 as-it-came s r n e = subst (λ (r : StepAnswer). StepCameTo (reach s) (s .args .t) r (now (s .args .depth)) (now (s .args .discharge)) (now (s .args .mass)) (now (s .args .base)) (now (s .args .carried))) (sym e)
 
-checked : (c : tie.After-enum-told) → firstRefusal (recordGrounds (reach (entry (c .before .before))) (entry (c .before .before) .args .boundaries)) ≡ Pass
+checked : (c : tie.After-enum-told) → firstRefusal (recordGrounds (reach (entry (c .before .before))) (entry (c .before .before) .args .held .boundaries)) ≡ Pass
 checked c = sym (c .before .before .check-record .ensures) ∙ c .enum-told .given .1
 
 check-record-requires : tie.Need-check-record-requires
@@ -65,7 +65,7 @@ returns c =
     let t = c .before .enum-told2 .given in
     let n = t .0 .0 in
     let e = sym (k .check-record .ensures) ∙ t .1 in
-    as-it-came s _ n (c .refused .ensures ∙ ap (λ (k : Check). stoppedBy (numberOf k) (s .args .boundaries) (s .args .ledger)) (t .1))
+    as-it-came s _ n (c .refused .ensures ∙ ap (λ (k : Check). stoppedBy (numberOf k) (s .args .held)) (t .1))
     (stayed (reach s) (s .args .t) n (refused-positive (reach s) n e) (stopped-before (reach s) (s .args .t) n e))
 
 check-time-requires : tie.Need-check-time-requires

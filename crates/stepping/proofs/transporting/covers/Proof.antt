@@ -1,11 +1,12 @@
 -- `stepping::transporting::covers` meets its contract. Assumes nothing.
-use mathlib.Core.Path.{_≡_, ap₂}
-use Prim.Native.Nat.{ℕ, _+_}
+use mathlib.Core.Path.{_≡_, ap}
+use Prim.Native.Nat.{ℕ}
 use native.Mathlib.Omega.{arith}
 use lib.Dec.{leb}
 use mir.Facts.{toZ-ofZ}
 use borrow.Author.Needs.{needs}
 use Rattle.numbers.proofs.SignedLaws.{R, L, abs-parts}
+use Rattle.reach.proofs.PartsLaws.{outflow-is}
 use Rattle.stepping.proofs.transporting.covers.Statement.{statement}
 use Rattle.stepping.proofs.transporting.covers.Tie as tie
 
@@ -27,7 +28,9 @@ add-result c =
     omega (arith, over-right (c .before), over-left c, abs-parts (s .args .right), abs-parts (s .args .left), s .pre .0, s .pre .1)
 
 returns : tie.Need-returns
-returns c = ap₂ (λ (r l : ℕ). leb (r + l) (c .before .before .args .b)) (over-right (c .before)) (over-left c)
+returns c =
+    let s = c .before .before .args in
+    ap (λ (n : ℕ). leb n (s .b)) (omega (arith, over-right (c .before), over-left c, outflow-is (s .left) (s .right)))
 
 pub covers-spec : {M : Type 1} → statement M
 covers-spec = tie.close (tie.spec right-part-requires left-part-requires add-result returns)

@@ -13,7 +13,8 @@ use borrow.Author.Needs.{sfits-of}
 use borrow.Author.Tests.{not-true, not-false}
 use Rattle.numbers.specs.Index.{allBelow}
 use Rattle.numbers.proofs.IndexLaws.{all-none, all-more, all-fails}
-use Rattle.numbers.proofs.SignedLaws.{R, L, abs-add}
+use Rattle.numbers.proofs.SignedLaws.{abs-add}
+use Rattle.reach.specs.Parts.{outflow}
 use Rattle.stepping.specs.Ranges.{sumsKept}
 use Rattle.stepping.proofs.transporting.keeps_sums.Statement.{statement}
 use Rattle.stepping.proofs.transporting.keeps_sums.Tie as tie
@@ -23,7 +24,7 @@ abbrev sumAt : List ℤ → List ℤ → ℕ → ℤ
 sumAt c net i = getD c i (pos 0) +ℤ getD net i (pos 0)
 
 abbrev coveredAt : List ℕ → List ℤ → List ℤ → ℕ → Bool
-coveredAt b c net i = leb (R (sumAt c net (i + 1)) + L (sumAt c net i)) (getD b i 0)
+coveredAt b c net i = leb (outflow (sumAt c net i) (sumAt c net (i + 1))) (getD b i 0)
 
 abbrev Inv-loop : tie.InvT-loop
 Inv-loop b c net n i₀ i = (i ≤ n) × (allBelow i (coveredAt b c net) ≡ true)
@@ -67,8 +68,8 @@ cell-is : (c : tie.After-covers Inv-loop μ-loop) →
 cell-is c =
     let k = c .before .before .before .before .before .before .before .before in
     let l = c .before .before .before .before in
-    let e = rw (toZ-ofZ (sfits-of (c .before .sum-of2 .ok)), toZ-ofZ (sfits-of (l .sum-of .ok))) at (c .covers .ensures) in
-    e ∙ ap₂ (λ (y z : ℤ). leb (R z + L y) (getD (now (start k .args .base)) (k .before .loop .i) 0)) (left-sum l) (right-sum (c .before))
+    let e = rw (toZ-ofZ (sfits-of (l .sum-of .ok)), toZ-ofZ (sfits-of (c .before .sum-of2 .ok))) at (c .covers .ensures) in
+    e ∙ ap₂ (λ (y z : ℤ). leb (outflow y z) (getD (now (start k .args .base)) (k .before .loop .i) 0)) (left-sum l) (right-sum (c .before))
 
 loop-holds : tie.Need-loop-holds Inv-loop μ-loop
 loop-holds c = (omega arith, all-none _)

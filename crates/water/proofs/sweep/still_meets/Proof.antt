@@ -10,6 +10,7 @@ use borrow.Author.Tests.{not-true, not-false}
 use Rattle.numbers.proofs.SignedLaws.{abs-sub}
 use Rattle.flux.specs.Wave.{waveSpeed}
 use Rattle.flux.proofs.WaveLaws.{wave-speed-most}
+use Rattle.water.specs.Sides.{sideSpeed}
 use Rattle.water.specs.Ranges.{sideOf, SideStateFits, sideMeets}
 use Rattle.water.specs.declared.SideState.{SideState}
 use borrow.Author.Needs.{needs}
@@ -56,7 +57,7 @@ mul-result-2 : tie.Need-mul-result-2
 mul-result-2 c = search needs
 
 returns-2 : tie.Need-returns-2
-unfolding sideMeets
+unfolding sideMeets sideSpeed
 returns-2 c =
     let s = c .before .before .before .before .args in
     rw (not-false (s .met) (c .before .before .before .if1 .left)) (ap (λ (v : ℕ). leb (s .t * v) (1_000 * s .x)) (speed c))

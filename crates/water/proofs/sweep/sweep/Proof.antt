@@ -56,7 +56,7 @@ first c = rw (toZ-ofZ (sfits-of (c .before .before .before .cell-state-arg .give
 
 beyond : (c : tie.After-boundary-state Inv-loop μ-loop) → SideStateFits (c .boundary-state .result) × (sideOf (c .boundary-state .result) ≡ leftSide (flow (c .before .before .before .before .before .before .before .before)) 0)
 unfolding leftSide
-beyond c = (c .boundary-state .ensures .0, c .boundary-state .ensures .1 ∙ ap (boundarySide _) (first (c .before .before) .1))
+beyond c = (c .boundary-state .ensures .0, c .boundary-state .ensures .1 ∙ ap (boundarySide _ _) (first (c .before .before) .1))
 
 -- the cell at hand and what stands at its right
 index : (c : tie.In-loop Inv-loop μ-loop) → (c .before .loop .i < cells (flow (start c))) × (c .before .loop .i < 1_000_000)
@@ -227,8 +227,8 @@ momentum-after-requires c κs =
       (omega (arith, f .0, l .rightward-most, r .leftward-most, c .before .before .before .depth-after .ensures), (l, r)),
     )
 
-mul-t39 : tie.Need-mul-t39 Inv-loop μ-loop
-mul-t39 c = let l = index (c .before .before .before .before .before .before .before .before .before) in omega (arith, l .1)
+mul-t40 : tie.Need-mul-t40 Inv-loop μ-loop
+mul-t40 c = let l = index (c .before .before .before .before .before .before .before .before .before) in omega (arith, l .1)
 
 slice-set-from-new-discharge-2 : tie.Need-slice-set-from-new-discharge-2 Inv-loop μ-loop
 slice-set-from-new-discharge-2 c =
@@ -331,7 +331,7 @@ sweep-spec =
     mul-momentum-after
     shared-slice-copy-out-momentum-after
     momentum-after-requires
-    mul-t39
+    mul-t40
     slice-set-from-new-discharge-2
     add-i
     loop-less

@@ -8,9 +8,9 @@ use mir.Val.{SFits}
 use mir.Facts.{toZ-ofZ}
 use borrow.Author.Needs.{needs}
 use Rattle.numbers.proofs.SignedLaws.{mag-abs}
-use Rattle.writing.specs.Bytes.{bits, columnBytes, written}
+use Rattle.encoding.specs.ToBytes.{bits, columnBytes, written}
 use Rattle.writing.specs.Writing.{boundaryBytes}
-use Rattle.writing.proofs.WritingLaws.{length-column, written-part}
+use Rattle.encoding.proofs.ToBytesLaws.{length-column, written-part}
 use Rattle.writing.proofs.header.put_boundary.Statement.{statement}
 use Rattle.writing.proofs.header.put_boundary.Tie as tie
 

@@ -12,13 +12,13 @@ use Rattle.writing.proofs.write.check_write.Statement.{statement}
 use Rattle.writing.proofs.write.check_write.Tie as tie
 
 abbrev start : tie.After-check-record → tie.Start
-start c = c .before .before .before .before
+start c = c .before .before .before .before .before
 
 abbrev reach : tie.Start → Reach
 reach s =
-    reachOf (now (s .args .bed)) (now (s .args .depth)) (now (s .args .discharge)) (now (s .args .mass)) (now (s .args .base)) (now (s .args .carried)) (s .args .x) (s .args .boundaries) (s .args .ledger)
+    reachOf (now (s .args .bed)) (now (s .args .depth)) (now (s .args .discharge)) (now (s .args .mass)) (now (s .args .base)) (now (s .args .carried)) (s .args .x) (s .args .held)
 
-checked : (c : tie.After-enum-told) → let s = reach (start (c .before .before)) in firstRefusal (recordGrounds s (s .boundaries)) ≡ Pass
+checked : (c : tie.After-enum-told) → let s = reach (start (c .before .before)) in firstRefusal (recordGrounds s (s .held .boundaries)) ≡ Pass
 checked c = sym (c .before .before .check-record .ensures) ∙ c .enum-told .given .1
 
 check-record-requires : tie.Need-check-record-requires
@@ -56,7 +56,7 @@ check-room-requires : tie.Need-check-room-requires
 check-room-requires c κs =
     let e = c .before .before .before in
     let s = reach (start (e .before .before)) in
-    sound s (s .boundaries) (checked e) .few
+    sound s (s .held .boundaries) (checked e) .few
 
 returns-3 : tie.Need-returns-3
 returns-3 c =

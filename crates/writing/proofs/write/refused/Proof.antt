@@ -13,10 +13,10 @@ enum-told : tie.Need-enum-told
 enum-told c = search needs
 
 returns : tie.Need-returns
-returns c = let a = c .before .before .args in ap (λ k. writtenWith (numberOf k) (a .boundaries) (a .ledger)) (sym (c .enum-told .given .1))
+returns c = let a = c .before .before .args in ap (λ k. writtenWith (numberOf k) (a .held)) (sym (c .enum-told .given .1))
 
 returns-2 : tie.Need-returns-2
-returns-2 c = let a = c .before .before .before .args in ap (λ k. writtenWith (numberOf k) (a .boundaries) (a .ledger)) (sym (c .before .k .given .1))
+returns-2 c = let a = c .before .before .before .args in ap (λ k. writtenWith (numberOf k) (a .held)) (sym (c .before .k .given .1))
 
 pub refused-spec : {M : Type 1} → statement M
 refused-spec = tie.close (tie.spec enum-known-k enum-told returns returns-2)

@@ -18,7 +18,7 @@ start c = c .before .before .before .before .before
 
 abbrev reach : tie.Start → Reach
 reach s =
-    reachOf (now (s .args .bed)) (now (s .args .depth)) (now (s .args .discharge)) (now (s .args .mass)) (now (s .args .base)) (now (s .args .carried)) (s .args .x) (s .args .boundaries) (s .args .ledger)
+    reachOf (now (s .args .bed)) (now (s .args .depth)) (now (s .args .discharge)) (now (s .args .mass)) (now (s .args .base)) (now (s .args .carried)) (s .args .x) (s .args .held)
 
 checked : (c : tie.After-enum-told) → let s = start (c .before .before) in writeRefusal (reach s) (length (now (s .args .out))) ≡ Pass
 checked c = sym (c .before .before .check-write .ensures) ∙ c .enum-told .given .1
@@ -41,14 +41,14 @@ returns c =
     let s = start k in
     let t = c .before .enum-told2 .given in
     refused-write (reach s) (now (s .args .out)) (t .0 .0) _ (sym (k .check-write .ensures) ∙ t .1)
-    (c .refused .ensures ∙ ap (λ (k : Check). writtenWith (numberOf k) (s .args .boundaries) (s .args .ledger)) (t .1))
+    (c .refused .ensures ∙ ap (λ (k : Check). writtenWith (numberOf k) (s .args .held)) (t .1))
 
 put-sheet-requires : tie.Need-put-sheet-requires
 put-sheet-requires c κs =
-    let s = start (c .before .before .before) in
+    let s = start (c .before .before .before .before) in
     let room = length (now (s .args .out)) in
-    let k = write-sound (reach s) room (checked (c .before)) in (
-      (k .few, write-room (reach s) room (checked (c .before))),
+    let k = write-sound (reach s) room (checked (c .before .before)) in (
+      (k .few, write-room (reach s) room (checked (c .before .before))),
       (
         (k .depths, (k .discharges, k .masses)),
         (
@@ -67,8 +67,8 @@ same-length c = search needs
 returns-2 : tie.Need-returns-2
 unfolding sheetBytes
 returns-2 c =
-    let s = start (c .before .before .before .before .before .before) in
-    accepted-write (reach s) (now (s .args .out)) _ (checked (c .before .before .before .before)) (c .before .before .put-sheet .ensures)
+    let s = start (c .before .before .before .before .before .before .before) in
+    accepted-write (reach s) (now (s .args .out)) _ (checked (c .before .before .before .before .before)) (c .before .before .put-sheet .ensures)
 
 pub write-sheet-spec : {M : Type 1} → statement M
 write-sheet-spec =

@@ -1,0 +1,3 @@
+pub mod FromBytesLaws
+pub mod ToBytesLaws
+pub mod BytesBack

@@ -1,0 +1,2 @@
+pub mod FromBytes
+pub mod ToBytes

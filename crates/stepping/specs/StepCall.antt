@@ -1,0 +1,25 @@
+-- Document 01, 'A water step' and 'Grounds for refusal': what the call of a step answers and leaves, accepted or refused.
+use mathlib.Core.Path.{_≡_}
+use mathlib.Core.Bool.{false}
+use mathlib.Core.List.{List}
+use Prim.Native.Nat.{ℕ}
+use lib.IntN.{ℤ}
+use Rattle.reach.specs.Reach.{Reach}
+use Rattle.reach.specs.declared.held.Held.{Held}
+use Rattle.stepping.specs.declared.step.StepAnswer.{StepAnswer}
+use Rattle.update.specs.Step.{step, transports}
+
+-- a refusal: its number, the boundaries and the ledger as they came, no transport
+abbrev pub stoppedBy : ℕ → Held → StepAnswer
+stoppedBy n k = record { refusal = n; held = k; transported = false }
+
+-- a step of t came out as `step` says: every field of its answer, and every column that it may write
+pub record StepCameTo (s : Reach) (t : ℕ) (r : StepAnswer) (depth : List ℕ) (discharge : List ℤ) (mass base : List ℕ) (carried : List ℤ) : Type 0 where
+  pub refusal-is : r .refusal ≡ step s t .refusal
+  pub held-is : r .held ≡ step s t .reach .held
+  pub transported-is : r .transported ≡ transports s t
+  pub depth-is : depth ≡ step s t .reach .depth
+  pub discharge-is : discharge ≡ step s t .reach .discharge
+  pub mass-is : mass ≡ step s t .reach .mass
+  pub base-is : base ≡ step s t .reach .base
+  pub carried-is : carried ≡ step s t .reach .carried

@@ -1,0 +1,2 @@
+pub mod GreatestLaws
+mod Says

@@ -1,0 +1,385 @@
+-- Laws of the step: in an accepted step no depth goes below zero, and it leaves a record that stands grounds 4 to 9 again. Assumes nothing.
+use mathlib.Core.Path.{_≡_, refl, sym, ap, _∙_, subst}
+use mathlib.Core.Bool.{Bool, true, false, cond}
+use mathlib.Core.Logic.{⊎-elim}
+use mathlib.Core.List.{List, [], _∷_}
+use Prim.Native.Nat.{ℕ, zero, suc, _+_, _-_, _*_, _≤_, _<_}
+use native.Mathlib.Numerals.{add-one}
+use native.Mathlib.Omega.{arith}
+use borrow.Author.Tests.{leb-true, le-leb, lt-ltb}
+use lib.Dec.{leb}
+use lib.IntN.{ℤ, pos, _+ℤ_, _-ℤ_, negℤ, subℕ, natAbs, +ℤ-idl}
+use lib.Signed.{leZ}
+use lib.ListN.{length, getD, getD-replicate}
+use Rattle.numbers.specs.Index.{allBelow, tabulate, sumBelow}
+use Rattle.numbers.specs.Signed.{positive}
+use Rattle.numbers.proofs.IndexLaws.{all-at, on, only, length-tabulate, getD-tabulate, telescope, sum-tabulate, sum-by-index}
+use Rattle.numbers.proofs.SignedLaws.{R, L, right-sub, left-sub, add-cross, one-part, abs-parts}
+use Rattle.flux.specs.Limits.{depthMost}
+use Rattle.flux.specs.Wave.{waveSpeed}
+use Rattle.flux.specs.Velocity.{velocity}
+use Rattle.cfl.specs.Cfl.{signalSpeed, speedAt, meetsCfl}
+use Rattle.reach.specs.Limits.{carriedMost, totalMost, wall}
+use Rattle.reach.specs.Reach.{Reach, cells, bedAt, depthAt, dischargeAt, massAt, baseAt, carriedAt, leftBoundary, rightBoundary}
+use Rattle.reach.specs.Grounds.{firstRefusal, recordGrounds, boundariesFit, totalsFit, ledgerFits}
+use Rattle.reach.specs.Outcome.{Outcome, outcome}
+use Rattle.reach.specs.Balance.{waterHeld, waterIn, waterOut, WaterBalanced, massHeld, massIn, massOut, MassBalanced, everywhere, CellsWithin, BoundariesWithin}
+use Rattle.reach.specs.declared.ledger.Totals.{Totals}
+use Rattle.reach.specs.declared.ledger.Ledger.{Ledger}
+use Rattle.reach.specs.declared.boundary.Boundary.{Boundary}
+use Rattle.reach.specs.declared.refusal.Check.{Check}
+use Rattle.reach.specs.declared.refusal.Check.the-variants.{Pass, Refused}
+use Rattle.reach.specs.Parts.{outflow}
+use Rattle.reach.proofs.PartsLaws.{outflow-is}
+use Rattle.reach.proofs.GroundsLaws.{stood, numbered, refused-number, passed-first}
+use Rattle.reach.proofs.Sound.{Sound, sound, stands, CellSound, CarriedSound, TotalsSound, totals-sound, ledger-left, ledger-right}
+use Rattle.transport.specs.Calls.{afterTransport, transportLedger, ledgerWith, withMass}
+use Rattle.transport.proofs.CallsLaws.{holding-held, transport-sound, transport-balanced, transport-within, carried-zero, base-at}
+use Rattle.water.specs.Water.{netAt, newDepth, newDischarge}
+use Rattle.water.proofs.WaterLaws.{rightward, leftward, net-is, outflow-covered, new-depth-is, wall-left, wall-right, nearest-within}
+use Rattle.timestep.specs.GreatestStep.{placeSpeed}
+use Rattle.update.specs.Step.{summed, keepsSums, transportedFirst, withWater, withBoundaryWater, stepLedger, afterStep, depthsFit, stepGrounds, step}
+
+-- ---- carried water that N is added to, over plain values
+
+carried-moved : (h b A B C D h' : ℕ) (c d N M : ℤ) → N ≡ subℕ A B → M ≡ subℕ C D → B + C ≤ h → h' ≡ h + A + D - (B + C)
+    → h + outflow c d ≡ b + R c + L d → outflow (c +ℤ N) (d +ℤ M) ≤ b → b ≤ depthMost → h' ≤ depthMost
+    → CarriedSound h' b (c +ℤ N) (d +ℤ M)
+carried-moved h b A B C D h' c d N M eN eM out eh old cov deep deep' =
+    let rN = ap R eN ∙ right-sub A B in
+    let lN = ap L eN ∙ left-sub A B in
+    let rM = ap R eM ∙ right-sub C D in
+    let lM = ap L eM ∙ left-sub C D in
+    let p = add-cross c N in
+    let q = add-cross d M in
+    let u = outflow-is c d in
+    let v = outflow-is (c +ℤ N) (d +ℤ M) in
+    let balanced : h' + outflow (c +ℤ N) (d +ℤ M) ≡ b + R (c +ℤ N) + L (d +ℤ M) = omega arith in
+    record {
+      left = ⊎-elim (λ z. omega (arith, abs-parts (c +ℤ N))) (λ z. omega (arith, abs-parts (c +ℤ N))) (one-part (c +ℤ N));
+      right = ⊎-elim (λ z. omega (arith, abs-parts (d +ℤ M))) (λ z. omega (arith, abs-parts (d +ℤ M))) (one-part (d +ℤ M));
+      balance = balanced;
+      covered = cov;
+    }
+
+-- ---- ledgers
+
+totals-fit : (t : Totals) → TotalsSound t → totalsFit t ≡ true
+unfolding totalsFit
+totals-fit t k =
+    on _ _ (le-leb _ _ (k .waterIn)) (on _ _ (le-leb _ _ (k .waterOut)) (on _ _ (le-leb _ _ (k .massIn)) (only _ ∙ le-leb _ _ (k .massOut))))
+
+-- where the ledger of the whole step fits, so does that of a transport inside it
+transporting-fits : (s : Reach) (first last : ℤ) → ledgerFits (s .held .ledger) ≡ true → ledgerFits (withBoundaryWater (transportLedger s) first last) ≡ true
+    → ledgerFits (transportLedger s) ≡ true
+unfolding ledgerFits withBoundaryWater withWater transportLedger ledgerWith withMass
+transporting-fits s first last old new =
+    let l = totals-sound _ (ledger-left _ new) in
+    let r = totals-sound _ (ledger-right _ new) in
+    let l₀ = totals-sound _ (ledger-left (s .held .ledger) old) in
+    let r₀ = totals-sound _ (ledger-right (s .held .ledger) old) in
+    on _ _ (totals-fit _ (record { waterIn = l₀ .waterIn; waterOut = l₀ .waterOut; massIn = l .massIn; massOut = l .massOut }))
+    (only _ ∙ totals-fit _ (record { waterIn = r₀ .waterIn; waterOut = r₀ .waterOut; massIn = r .massIn; massOut = r .massOut }))
+
+ledger-of : (s : Reach) (first last : ℤ) → ledgerFits (withBoundaryWater (afterTransport s .held .ledger) first last) ≡ true
+    → ledgerFits (withBoundaryWater (transportLedger s) first last) ≡ true
+unfolding afterTransport
+ledger-of s first last f = f
+
+-- the record that N is added to has the bed, the depths and the boundaries of s
+module _ (s : Reach) (t : ℕ) where
+  transported-bed : transportedFirst s t .bed ≡ s .bed
+  unfolding transportedFirst afterTransport
+  transported-bed = go (keepsSums s t)
+    where
+      go : (b : Bool) → cond b s (afterTransport s) .bed ≡ s .bed
+      go true = refl
+      go false = refl
+
+  transported-depth : transportedFirst s t .depth ≡ s .depth
+  unfolding transportedFirst afterTransport
+  transported-depth = go (keepsSums s t)
+    where
+      go : (b : Bool) → cond b s (afterTransport s) .depth ≡ s .depth
+      go true = refl
+      go false = refl
+
+  transported-boundaries : transportedFirst s t .held .boundaries ≡ s .held .boundaries
+  unfolding transportedFirst afterTransport
+  transported-boundaries = go (keepsSums s t)
+    where
+      go : (b : Bool) → cond b s (afterTransport s) .held .boundaries ≡ s .held .boundaries
+      go true = refl
+      go false = refl
+
+-- N by its parts, and the ledger's water
+net-parts : (s : Reach) (t i : ℕ) → positive (netAt s t i) + leftward s t i ≡ rightward s t i + positive (negℤ (netAt s t i))
+net-parts s t i =
+    let a = ap R (net-is s t i) ∙ right-sub (rightward s t i) (leftward s t i) in
+    let b = ap L (net-is s t i) ∙ left-sub (rightward s t i) (leftward s t i) in
+    omega arith
+
+ledger-water : (s : Reach) (t : ℕ) →
+    let k = afterStep s t .held .ledger in
+    (k .left .«water_in» ≡ s .held .ledger .left .«water_in» + positive (netAt s t 0))
+    × (k .left .«water_out» ≡ s .held .ledger .left .«water_out» + positive (negℤ (netAt s t 0)))
+    × (k .right .«water_in» ≡ s .held .ledger .right .«water_in» + positive (negℤ (netAt s t (cells s))))
+    × (k .right .«water_out» ≡ s .held .ledger .right .«water_out» + positive (netAt s t (cells s)))
+unfolding afterStep stepLedger withBoundaryWater withWater transportedFirst afterTransport transportLedger ledgerWith withMass
+ledger-water s t = go (keepsSums s t)
+  where
+    go : (b : Bool) →
+        let k = cond b s (afterTransport s) .held .ledger in
+        (k .left .«water_in» + positive (netAt s t 0) ≡ s .held .ledger .left .«water_in» + positive (netAt s t 0))
+        × (k .left .«water_out» + positive (negℤ (netAt s t 0)) ≡ s .held .ledger .left .«water_out» + positive (negℤ (netAt s t 0)))
+        × (k .right .«water_in» + positive (negℤ (netAt s t (cells s))) ≡ s .held .ledger .right .«water_in» + positive (negℤ (netAt s t (cells s))))
+        × (k .right .«water_out» + positive (netAt s t (cells s)) ≡ s .held .ledger .right .«water_out» + positive (netAt s t (cells s)))
+    go true = (refl, refl, refl, refl)
+    go false = (refl, refl, refl, refl)
+
+-- bounds are those of the record that N is added to: the step moves water alone
+of-transported : (s : Reach) (t : ℕ) (lo hi : ℕ → ℤ) → CellsWithin lo hi (transportedFirst s t) → CellsWithin lo hi (afterStep s t)
+unfolding afterStep
+of-transported s t lo hi w =
+    let e = ap length (transported-bed s t) in
+    record { above = λ i l. w .above i (omega arith); below = λ i l. w .below i (omega arith) }
+
+module _ (s : Reach) (k : Sound s) (t : ℕ) (cfl : meetsCfl (placeSpeed s) (cells s + 1) (s .cellLength) t ≡ true) where
+  -- CFL at each cell
+  place-cell : (i : ℕ) → i < length (s .depth) → placeSpeed s (suc i) ≡ natAbs (velocity (depthAt s i) (dischargeAt s i)) + waveSpeed (depthAt s i)
+  unfolding placeSpeed speedAt signalSpeed
+  place-cell i l = rw (lt-ltb i (length (s .depth)) l) refl
+
+  cfl-at : (i : ℕ) → i < cells s → t * (natAbs (velocity (depthAt s i) (dischargeAt s i)) + waveSpeed (depthAt s i)) ≤ 1_000 * s .cellLength
+  unfolding meetsCfl
+  cfl-at i l =
+      let p : suc i < suc (cells s + 1) = omega arith in
+      let e : t * placeSpeed s (suc i) ≤ 1_000 * s .cellLength =
+      leb-true _ _ (all-at (λ n. leb (t * placeSpeed s n) (1_000 * s .cellLength)) (suc (cells s + 1)) (suc i) cfl p) in
+      rw (place-cell i (omega (arith, k .depths))) at e
+
+  some-length : 0 < s .cellLength
+  some-length = let x = k .lengthLeast in omega arith
+
+  -- no depth goes below zero
+  pub depth-not-negative : (i : ℕ) → i < cells s → newDepth s t i ≡ pos (positive (newDepth s t i))
+  depth-not-negative i l = let e = new-depth-is s t i l some-length (cfl-at i l) in e ∙ ap pos (sym (ap positive e))
+
+  covered-at : (i : ℕ) → i < cells s → leftward s t i + rightward s t (suc i) ≤ depthAt s i
+  covered-at i l = outflow-covered s t i l some-length (cfl-at i l)
+
+  depth-at : (i : ℕ) → i < cells s
+      → positive (newDepth s t i) ≡ depthAt s i + rightward s t i + leftward s t (suc i) - (leftward s t i + rightward s t (suc i))
+  depth-at i l = ap positive (new-depth-is s t i l some-length (cfl-at i l))
+
+  -- N by itself is covered by the depth
+  net-covered : (i : ℕ) → i < cells s → outflow (netAt s t i) (netAt s t (suc i)) ≤ depthAt s i
+  net-covered i l =
+      let a = ap R (net-is s t (suc i)) ∙ right-sub (rightward s t (suc i)) (leftward s t (suc i)) in
+      let b = ap L (net-is s t i) ∙ left-sub (rightward s t i) (leftward s t i) in
+      omega (arith, covered-at i l, outflow-is (netAt s t i) (netAt s t (suc i)))
+
+  module _ (deep : depthsFit s t ≡ true) where
+    deep-at : (i : ℕ) → i < cells s → positive (newDepth s t i) ≤ depthMost
+    unfolding depthsFit
+    deep-at i l =
+        leb-true _ _ (ap (λ (z : ℤ). leZ z (pos depthMost)) (sym (depth-not-negative i l)) ∙ all-at (λ n. leZ (newDepth s t n) (pos depthMost)) (cells s) i deep l)
+
+    module _ (fits : ledgerFits (stepLedger s t) ≡ true) where
+      -- the record that N is added to is sound
+      pub transported-sound : Sound (transportedFirst s t)
+      unfolding transportedFirst stepLedger
+      transported-sound = go (keepsSums s t) fits
+        where
+          go : (b : Bool) → ledgerFits (withBoundaryWater (cond b s (afterTransport s) .held .ledger) (netAt s t 0) (netAt s t (cells s))) ≡ true
+              → Sound (cond b s (afterTransport s))
+          go true f = k
+          go false f =
+              subst Sound (holding-held s)
+              (transport-sound s k (s .held .boundaries) (k .boundaries) (transporting-fits s (netAt s t 0) (netAt s t (cells s)) (k .ledger) (ledger-of s _ _ f)))
+
+      -- what N makes of its carried water is covered by its base depth
+      summed-covered : (i : ℕ) → i < cells s
+          → outflow (carriedAt (transportedFirst s t) i +ℤ netAt s t i) (carriedAt (transportedFirst s t) (suc i) +ℤ netAt s t (suc i)) ≤ baseAt (transportedFirst s t) i
+      unfolding transportedFirst keepsSums summed
+      summed-covered i l = go (keepsSums s t) refl
+        where
+          test : ℕ → Bool
+          test n = leb (outflow (carriedAt s n +ℤ netAt s t n) (carriedAt s (suc n) +ℤ netAt s t (suc n))) (baseAt s n)
+
+          go : (b : Bool) → keepsSums s t ≡ b
+              → outflow (carriedAt (cond b s (afterTransport s)) i +ℤ netAt s t i) (carriedAt (cond b s (afterTransport s)) (suc i) +ℤ netAt s t (suc i))
+              ≤ baseAt (cond b s (afterTransport s)) i
+          go true e = leb-true _ _ (all-at test (cells s) i e l)
+          go false e =
+              let z = carried-zero s k in
+              rw (z (suc i) (omega (arith, k .interfaces)), z i (omega (arith, k .interfaces)), +ℤ-idl, +ℤ-idl, base-at s k i)
+              (net-covered i l)
+
+      -- ---- an accepted step leaves a sound record
+
+      transported-cells : cells (transportedFirst s t) ≡ cells s
+      transported-cells = ap length (transported-bed s t)
+
+      depth-of : (i : ℕ) → i < cells s → depthAt (afterStep s t) i ≡ positive (newDepth s t i)
+      unfolding afterStep
+      depth-of i l = getD-tabulate (cells s) (λ n. positive (newDepth s t n)) i 0 l
+
+      discharge-of : (i : ℕ) → i < cells s → dischargeAt (afterStep s t) i ≡ newDischarge s t i
+      unfolding afterStep
+      discharge-of i l = getD-tabulate (cells s) (newDischarge s t) i (pos 0) l
+
+      carried-of : (i : ℕ) → i ≤ cells s → carriedAt (afterStep s t) i ≡ carriedAt (transportedFirst s t) i +ℤ netAt s t i
+      unfolding afterStep
+      carried-of i l = getD-tabulate (suc (cells s)) (λ n. carriedAt (transportedFirst s t) n +ℤ netAt s t n) i (pos 0) (omega arith)
+
+      discharge-within : (i : ℕ) → natAbs (newDischarge s t i) ≤ 8_000 * positive (newDepth s t i)
+      unfolding newDischarge
+      discharge-within i = nearest-within _ _
+
+      cell-after : (i : ℕ) → i < cells s
+          → CellSound (bedAt s i) (positive (newDepth s t i)) (newDischarge s t i) (massAt (transportedFirst s t) i) (baseAt (transportedFirst s t) i)
+      cell-after i l =
+          let c = transported-sound .cell i (omega (arith, transported-cells)) in record {
+            bed = k .cell i l .bed;
+            depth = deep-at i l;
+            discharge = discharge-within i;
+            base = c .base;
+            mass = c .mass;
+          }
+
+      water-of : (i : ℕ) → i < cells s
+          → CarriedSound (positive (newDepth s t i)) (baseAt (transportedFirst s t) i) (carriedAt (transportedFirst s t) i +ℤ netAt s t i)
+          (carriedAt (transportedFirst s t) (suc i) +ℤ netAt s t (suc i))
+      water-of i l =
+          let r = transportedFirst s t in
+          let c = transported-sound .water i (omega (arith, transported-cells)) in
+          let d : depthAt r i ≡ depthAt s i = ap (λ (h : List ℕ). getD h i 0) (transported-depth s t) in
+          let n : carriedAt r (i + 1) ≡ carriedAt r (suc i) = ap (carriedAt r) (add-one i) in
+          carried-moved (depthAt s i) (baseAt r i) (rightward s t i) (leftward s t i) (rightward s t (suc i)) (leftward s t (suc i)) (positive (newDepth s t i))
+          (carriedAt r i) (carriedAt r (suc i)) (netAt s t i) (netAt s t (suc i))
+          (net-is s t i) (net-is s t (suc i)) (covered-at i l) (depth-at i l)
+          (rw (d, n) at (c .balance)) (summed-covered i l) (transported-sound .cell i (omega (arith, transported-cells)) .base) (deep-at i l)
+
+      shut : (c n : ℤ) → c ≡ pos 0 → n ≡ pos 0 → c +ℤ n ≡ pos 0
+      shut c n p q = rw (p, q) refl
+
+      pub stepped-sound : Sound (afterStep s t)
+      unfolding afterStep
+      stepped-sound =
+          let r = transported-sound in
+          let e = transported-boundaries s t in record {
+            some = k .some;
+            few = k .few;
+            depths = length-tabulate (cells s) (λ i. positive (newDepth s t i));
+            discharges = length-tabulate (cells s) (newDischarge s t);
+            masses = r .masses ∙ transported-cells;
+            bases = r .bases ∙ transported-cells;
+            interfaces = length-tabulate (suc (cells s)) (λ i. carriedAt (transportedFirst s t) i +ℤ netAt s t i) ∙ sym (add-one (cells s));
+            lengthLeast = k .lengthLeast;
+            lengthMost = k .lengthMost;
+            left = k .left;
+            right = k .right;
+            boundaries = k .boundaries;
+            cell = λ i l. rw (depth-of i l, discharge-of i l) (cell-after i l);
+            water = λ i l. rw (depth-of i l, add-one i, carried-of i (omega arith), carried-of (suc i) l) (water-of i l);
+            shutLeft = λ w. carried-of 0 (omega arith) ∙ shut _ _ (r .shutLeft (ap (λ x. leftBoundary x .kind) e ∙ w)) (wall-left s t (k .some) w);
+            shutRight = λ w. carried-of (cells s) (omega arith) ∙ shut _ _ (ap (carriedAt (transportedFirst s t)) (sym transported-cells) ∙ r .shutRight (ap (λ x. rightBoundary x .kind) e ∙ w)) (wall-right s t (k .some) w);
+            ledger = fits;
+          }
+
+  -- ---- water: what crosses from one cell to the next cancels
+
+  cell-water : (i : ℕ) → i < cells s
+      → positive (newDepth s t i) + rightward s t (suc i) + leftward s t i ≡ depthAt s i + rightward s t i + leftward s t (suc i)
+  cell-water i l = omega (arith, depth-at i l, covered-at i l)
+
+  water-crossed : sumBelow (cells s) (λ i. positive (newDepth s t i)) + rightward s t (cells s) + leftward s t 0
+      ≡ sumBelow (cells s) (depthAt s) + rightward s t 0 + leftward s t (cells s)
+  water-crossed = telescope (cells s) (λ i. positive (newDepth s t i)) (depthAt s) (rightward s t) (leftward s t) cell-water
+
+  held-before : waterHeld s ≡ sumBelow (cells s) (depthAt s)
+  unfolding waterHeld
+  held-before = sum-by-index (s .depth) ∙ ap (λ (n : ℕ). sumBelow n (depthAt s)) (k .depths)
+
+  held-after : waterHeld (afterStep s t) ≡ sumBelow (cells s) (λ i. positive (newDepth s t i))
+  unfolding waterHeld afterStep
+  held-after = sum-tabulate (cells s) (λ i. positive (newDepth s t i))
+
+  pub step-water-balanced : WaterBalanced s (afterStep s t)
+  unfolding WaterBalanced waterIn waterOut
+  step-water-balanced =
+      let first = net-parts s t 0 in
+      let last = net-parts s t (cells s) in
+      let w = ledger-water s t in
+      omega (arith, held-before, held-after, water-crossed)
+
+-- ---- mass: the step adds nothing to what a transport before it does
+
+pub step-mass-balanced : (s : Reach) → Sound s → (t : ℕ) → MassBalanced s (afterStep s t)
+unfolding MassBalanced massHeld massIn massOut afterStep stepLedger withBoundaryWater withWater transportedFirst
+step-mass-balanced s k t = go (keepsSums s t)
+  where
+    go : (b : Bool) → MassBalanced s (cond b s (afterTransport s))
+    go true = refl
+    go false = transport-balanced s k
+
+pub step-within : (s : Reach) → Sound s → (t : ℕ) (lo hi : ℤ) → CellsWithin (everywhere lo) (everywhere hi) s → BoundariesWithin (everywhere lo) (everywhere hi) (cells s) (s .held .boundaries)
+    → CellsWithin (everywhere lo) (everywhere hi) (afterStep s t)
+unfolding transportedFirst
+step-within s k t lo hi w e = of-transported s t (everywhere lo) (everywhere hi) (go (keepsSums s t))
+  where
+    go : (b : Bool) → CellsWithin (everywhere lo) (everywhere hi) (cond b s (afterTransport s))
+    go true = w
+    go false = transport-within s k lo hi w e
+
+-- ---- the call: what each outcome is, and what an accepted one leaves
+
+all-numbered : (s : Reach) (t : ℕ) → numbered (stepGrounds s t) ≡ true
+unfolding numbered
+all-numbered s t = refl
+
+-- every statement about the outcome, by the two ways it can go
+pub by-step : (s : Reach) (t : ℕ) (P : Outcome → Type 0)
+    → ((n : ℕ) → 0 < n → P (record { refusal = n; reach = s }))
+    → (Sound s → meetsCfl (placeSpeed s) (cells s + 1) (s .cellLength) t ≡ true → depthsFit s t ≡ true → ledgerFits (stepLedger s t) ≡ true
+    → P (record { refusal = 0; reach = afterStep s t }))
+    → P (step s t)
+unfolding step
+by-step s t P stays moves = go (firstRefusal (stepGrounds s t)) refl
+  where
+    go : (k : Check) → firstRefusal (stepGrounds s t) ≡ k → P (outcome k s (afterStep s t))
+    go (Refused n) e = stays n (refused-number (stepGrounds s t) n (all-numbered s t) e)
+    go Pass e =
+        let g = stood (stepGrounds s t) e in
+        moves (sound s (s .held .boundaries) (passed-first (recordGrounds s (s .held .boundaries)) _ e)) (g 8) (g 9) (g 10)
+
+-- an accepted step leaves a record that stands grounds 4 to 9 again, whatever pair it is given next
+pub step-stands-again : (s : Reach) (t : ℕ) (gs : List Boundary) → step s t .refusal ≡ 0 → boundariesFit gs ≡ true
+    → firstRefusal (recordGrounds (step s t .reach) gs) ≡ Pass
+step-stands-again s t gs e g =
+    by-step s t (λ o. o .refusal ≡ 0 → firstRefusal (recordGrounds (o .reach) gs) ≡ Pass)
+    (λ n p z. absurd (omega arith))
+    (λ k c d l z. stands (afterStep s t) gs (stepped-sound s k t c d l) g)
+    e
+
+-- the formula for h' gives no less than 0 in an accepted step
+pub accepted-depths : (s : Reach) (t : ℕ) → step s t .refusal ≡ 0 → (i : ℕ) → i < cells s → newDepth s t i ≡ pos (positive (newDepth s t i))
+accepted-depths s t e i l =
+    by-step s t (λ o. o .refusal ≡ 0 → newDepth s t i ≡ pos (positive (newDepth s t i)))
+    (λ n p z. absurd (omega arith))
+    (λ k c d f z. depth-not-negative s k t c i l)
+    e
+
+-- water and mass balance against the ledger, and bounds are kept, accepted or refused
+pub water-balanced : (s : Reach) (t : ℕ) → WaterBalanced s (step s t .reach)
+unfolding WaterBalanced
+water-balanced s t = by-step s t (λ o. WaterBalanced s (o .reach)) (λ n p. omega arith) (λ k c d l. step-water-balanced s k t c)
+
+pub mass-balanced : (s : Reach) (t : ℕ) → MassBalanced s (step s t .reach)
+unfolding MassBalanced
+mass-balanced s t = by-step s t (λ o. MassBalanced s (o .reach)) (λ n p. omega arith) (λ k c d l. step-mass-balanced s k t)
+
+pub within : (s : Reach) (t : ℕ) (lo hi : ℤ) → CellsWithin (everywhere lo) (everywhere hi) s → BoundariesWithin (everywhere lo) (everywhere hi) (cells s) (s .held .boundaries)
+    → CellsWithin (everywhere lo) (everywhere hi) (step s t .reach)
+within s t lo hi w e = by-step s t (λ o. CellsWithin (everywhere lo) (everywhere hi) (o .reach)) (λ n p. w) (λ k c d l. step-within s k t lo hi w e)

@@ -1,0 +1,92 @@
+-- Document 01, 'A water step': the transport test (the paper's 'settling test'), the ledger's boundary water, grounds 10 to 13, and the record after the step.
+use mathlib.Core.Bool.{Bool, not, cond, _&&_}
+use mathlib.Core.List.{List, [], _∷_, _++_}
+use Prim.Native.Nat.{ℕ, suc, _+_}
+use lib.Dec.{leb, eqb}
+use lib.IntN.{ℤ, pos, _+ℤ_, negℤ}
+use lib.Signed.{leZ}
+use Rattle.numbers.specs.Index.{allOf, allBelow, tabulate}
+use Rattle.numbers.specs.Signed.{positive}
+use Rattle.flux.specs.Limits.{depthMost, timeStepMost}
+use Rattle.cfl.specs.Cfl.{meetsCfl}
+use Rattle.reach.specs.Reach.{Reach, cells, baseAt, carriedAt, withLedger}
+use Rattle.reach.specs.Parts.{outflow}
+use Rattle.reach.specs.Grounds.{Ground, ground, firstRefusal, ledgerFits, recordGrounds}
+use Rattle.reach.specs.Outcome.{Outcome, outcome}
+use Rattle.reach.specs.declared.ledger.Totals.{Totals}
+use Rattle.reach.specs.declared.ledger.Ledger.{Ledger}
+use Rattle.transport.specs.Calls.{afterTransport}
+use Rattle.water.specs.Water.{netAt, newDepth, newDischarge}
+use Rattle.timestep.specs.GreatestStep.{placeSpeed}
+
+-- ---- the transport test, the paper's 'settling test'
+
+-- add N to c
+unfoldable pub summed : Reach → (t i : ℕ) → ℤ
+summed s t i = carriedAt s i +ℤ netAt s t i
+
+-- max(c(i+1),0) + max(−c(i),0) ≤ b in each cell, with the sums; b is the base depth, where report 4529's (26) prints the running one
+unfoldable pub keepsSums : Reach → (t : ℕ) → Bool
+keepsSums s t = allBelow (cells s) (λ i. leb (outflow (summed s t i) (summed s t (suc i))) (baseAt s i))
+
+-- the record that N is added to: as it is where the sums are kept, otherwise after a transport with the old c, so that c is then 0
+unfoldable pub transportedFirst : Reach → (t : ℕ) → Reach
+transportedFirst s t = cond (keepsSums s t) s (afterTransport s)
+
+-- ---- boundary water (the paper's 'end water') goes into the ledger by the sign of N
+
+unfoldable pub withWater : Totals → (gained lost : ℕ) → Totals
+withWater t gained lost =
+    record { «water_in» = t .«water_in» + gained; «water_out» = t .«water_out» + lost; «mass_in» = t .«mass_in»; «mass_out» = t .«mass_out» }
+
+-- N at interface 0 is positive inwards, N at interface n outwards
+unfoldable pub withBoundaryWater : Ledger → (first last : ℤ) → Ledger
+withBoundaryWater k first last = record {
+  left = withWater (k .left) (positive first) (positive (negℤ first));
+  right = withWater (k .right) (positive (negℤ last)) (positive last);
+}
+
+unfoldable pub stepLedger : Reach → (t : ℕ) → Ledger
+stepLedger s t = withBoundaryWater (transportedFirst s t .held .ledger) (netAt s t 0) (netAt s t (cells s))
+
+-- ---- the record after the step
+
+unfoldable pub afterStep : Reach → (t : ℕ) → Reach
+afterStep s t =
+    let r = transportedFirst s t in record {
+      bed = s .bed;
+      depth = tabulate (cells s) (λ i. positive (newDepth s t i));
+      discharge = tabulate (cells s) (newDischarge s t);
+      mass = r .mass;
+      base = r .base;
+      carried = tabulate (suc (cells s)) (λ i. carriedAt r i +ℤ netAt s t i);
+      cellLength = s .cellLength;
+      held = withLedger (stepLedger s t) (s .held);
+    }
+
+-- ---- grounds 10 to 13
+
+-- 10: t is in 1..1,000
+unfoldable pub timeFits : ℕ → Bool
+timeFits t = allOf (leb 1 t ∷ leb t timeStepMost ∷ [])
+
+-- 12: no new depth exceeds 4,000,000
+unfoldable pub depthsFit : Reach → (t : ℕ) → Bool
+depthsFit s t = allBelow (cells s) (λ i. leZ (newDepth s t i) (pos depthMost))
+
+-- 4 to 9, then 10; 11, CFL; 12; 13, no total passes 10^18 by this call, the mass of a transport inside it counted
+abbrev pub stepGrounds : Reach → (t : ℕ) → List Ground
+stepGrounds s t =
+    recordGrounds s (s .held .boundaries)
+    ++ (ground 10 (timeFits t)
+    ∷ ground 11 (meetsCfl (placeSpeed s) (cells s + 1) (s .cellLength) t)
+    ∷ ground 12 (depthsFit s t)
+    ∷ ground 13 (ledgerFits (stepLedger s t))
+    ∷ [])
+
+unfoldable pub step : Reach → (t : ℕ) → Outcome
+step s t = outcome (firstRefusal (stepGrounds s t)) s (afterStep s t)
+
+-- whether an accepted step transported first: the paper's 'moment of settling'
+unfoldable pub transports : Reach → (t : ℕ) → Bool
+transports s t = eqb (step s t .refusal) 0 && not (keepsSums s t)
