@@ -1,5 +1,5 @@
 /* A controller's loop: opens a sheet, follows an hour of canal time with the greatest steps, changes the dose at the head twice, prints what passed
- * the ends, writes the sheet and opens it again.
+ * the boundaries, writes the sheet and opens it again. What it prints keeps the paper's words: a settling is a transport, nutrient is mass.
  *
  *     controller IN.sheet OUT.sheet
  */
@@ -22,7 +22,7 @@ struct reach {
     uint64_t base[CELLS];
     int64_t carried[CELLS + 1];
     uint64_t cell_length;
-    jemmyfern_ends ends;
+    jemmyfern_boundaries boundaries;
     jemmyfern_ledger ledger;
 };
 
@@ -39,18 +39,18 @@ static uint32_t open_sheet(struct reach *r, const uint8_t *bytes, size_t length)
     r->n = jemmyfern_cells(bytes, length);
     jemmyfern_opened o = jemmyfern_open(bytes, length, COLUMNS(r));
     r->cell_length = o.cell_length;
-    r->ends = o.ends;
+    r->boundaries = o.boundaries;
     r->ledger = o.ledger;
     return o.refusal;
 }
 
-/* The head's dose: the left end as it is, with another concentration. Settles first under the old one. */
+/* The head's dose: the left boundary as it is, with another concentration. A transport under the old one comes first. */
 static uint32_t set_dose(struct reach *r, uint64_t concentration)
 {
-    jemmyfern_ends next = r->ends;
-    next.ends[0].concentration = concentration;
-    jemmyfern_answer a = jemmyfern_set_boundaries(COLUMNS(r), r->cell_length, r->ends, r->ledger, next);
-    r->ends = a.ends;
+    jemmyfern_boundaries next = r->boundaries;
+    next.boundaries[0].concentration = concentration;
+    jemmyfern_answer a = jemmyfern_set_boundaries(COLUMNS(r), r->cell_length, r->boundaries, r->ledger, next);
+    r->boundaries = a.boundaries;
     r->ledger = a.ledger;
     return a.refusal;
 }
@@ -61,15 +61,15 @@ static int refused(const char *what, uint32_t number)
     return 1;
 }
 
-static void print_totals(const char *end, const jemmyfern_totals *t)
+static void print_totals(const char *side, const jemmyfern_totals *t)
 {
-    printf("%s water in %" PRIu64 " out %" PRIu64 " nutrient in %" PRIu64 " out %" PRIu64 "\n", end, t->water_in, t->water_out,
+    printf("%s water in %" PRIu64 " out %" PRIu64 " nutrient in %" PRIu64 " out %" PRIu64 "\n", side, t->water_in, t->water_out,
            t->mass_in, t->mass_out);
 }
 
 static int same_record(const struct reach *a, const struct reach *b)
 {
-    return a->n == b->n && a->cell_length == b->cell_length && memcmp(&a->ends, &b->ends, sizeof a->ends) == 0
+    return a->n == b->n && a->cell_length == b->cell_length && memcmp(&a->boundaries, &b->boundaries, sizeof a->boundaries) == 0
         && memcmp(a->bed, b->bed, a->n * sizeof *a->bed) == 0 && memcmp(a->depth, b->depth, a->n * sizeof *a->depth) == 0
         && memcmp(a->discharge, b->discharge, a->n * sizeof *a->discharge) == 0
         && memcmp(a->mass, b->mass, a->n * sizeof *a->mass) == 0 && memcmp(a->base, b->base, a->n * sizeof *a->base) == 0
@@ -101,42 +101,42 @@ int main(int argc, char **argv)
         uint64_t concentration;
     } doses[] = {{HOUR_MS / 3, 40000}, {HOUR_MS / 3 * 2, 500}};
     size_t dose = 0;
-    uint32_t elapsed = 0, steps = 0, settlings = 0;
+    uint32_t elapsed = 0, steps = 0, transports = 0;
     while (elapsed < HOUR_MS) {
         if (dose < sizeof doses / sizeof *doses && elapsed >= doses[dose].from) {
             number = set_dose(&reach, doses[dose].concentration);
             if (number != 0)
-                return refused("set ends", number);
-            settlings++;
+                return refused("set boundaries", number);
+            transports++;
             dose++;
         }
-        jemmyfern_greatest g = jemmyfern_greatest_step(COLUMNS(&reach), reach.cell_length, reach.ends, reach.ledger);
+        jemmyfern_greatest g = jemmyfern_greatest_step(COLUMNS(&reach), reach.cell_length, reach.boundaries, reach.ledger);
         if (g.refusal != 0)
             return refused("greatest step", g.refusal);
         uint64_t left = HOUR_MS - elapsed;
         uint64_t t = g.time < left ? g.time : left;
-        jemmyfern_stepped s = jemmyfern_step(COLUMNS(&reach), reach.cell_length, reach.ends, reach.ledger, t);
+        jemmyfern_stepped s = jemmyfern_step(COLUMNS(&reach), reach.cell_length, reach.boundaries, reach.ledger, t);
         if (s.refusal != 0)
             return refused("step", s.refusal);
-        reach.ends = s.ends;
+        reach.boundaries = s.boundaries;
         reach.ledger = s.ledger;
         elapsed += (uint32_t)t;
         steps++;
-        settlings += s.settled;
+        transports += s.transported;
     }
-    jemmyfern_answer a = jemmyfern_transport(COLUMNS(&reach), reach.cell_length, reach.ends, reach.ledger);
+    jemmyfern_answer a = jemmyfern_transport(COLUMNS(&reach), reach.cell_length, reach.boundaries, reach.ledger);
     if (a.refusal != 0)
-        return refused("settle", a.refusal);
-    reach.ends = a.ends;
+        return refused("transport", a.refusal);
+    reach.boundaries = a.boundaries;
     reach.ledger = a.ledger;
-    settlings++;
+    transports++;
 
-    printf("steps %" PRIu32 " settlings %" PRIu32 "\n", steps, settlings);
+    printf("steps %" PRIu32 " settlings %" PRIu32 "\n", steps, transports);
     print_totals("left", &reach.ledger.left);
     print_totals("right", &reach.ledger.right);
 
     length = JEMMYFERN_SHEET_SIZE(reach.n);
-    a = jemmyfern_write(COLUMNS(&reach), reach.cell_length, reach.ends, reach.ledger, sheet, length);
+    a = jemmyfern_write(COLUMNS(&reach), reach.cell_length, reach.boundaries, reach.ledger, sheet, length);
     if (a.refusal != 0)
         return refused("write", a.refusal);
     FILE *out = fopen(argv[2], "wb");

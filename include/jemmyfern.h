@@ -1,7 +1,10 @@
 /* A reach of an irrigation canal in whole units: the six proved calls, for C.
  *
- * The reach is straight and rectangular, n equal cells between two ends, per metre of width, without friction and without inflow or outlets along
- * it. Its record is six arrays, a cell length, two ends and a ledger; all of it is the caller's.
+ * The reach is straight and rectangular, n equal cells between two boundaries, per metre of width, without friction and without inflow or outlets
+ * along it. Its record is six arrays, a cell length, two boundaries and a ledger; all of it is the caller's.
+ *
+ * The words are those of the field. Where the paper that describes the model has another, it stands once in quotes at the definition; the
+ * README's glossary pairs them all.
  *
  * Link with target/staticlib/libjemmyfern_c.a (made by `rt staticlib jemmyfern_c`), built for x86-64 (ELF, System V calls, 64-bit size_t, SSE2). It
  * calls memcpy, memmove and memset, which any C library has, and nothing else.
@@ -12,33 +15,34 @@
  *   cell length            mm
  *   time step              ms
  *   concentration          micrograms per litre; of a cell it is mass / base depth, and there is none where the base depth is 0
- *   mass (nutrient)        grains: one micrometre of depth at concentration 1; times cell length / 10^12 is g per metre of width
+ *   mass                   grains: one micrometre of depth at concentration 1; times cell length / 10^12 is g per metre of width
  *   water in the ledger    micrometres of depth of one cell; times cell length / 10^9 is m3 per metre of width
  *
  * A record is sound when
  *   - every value keeps the limits below,
  *   - at each cell i: depth = base + carried[i] - carried[i+1], and max(carried[i+1], 0) + max(-carried[i], 0) <= base,
- *   - carried is 0 at an end that is a wall.
+ *   - carried is 0 at a boundary that is a wall.
  *   An opening makes a sound record, and every accepted call leaves one. Every call looks again at all of it, so memory that was damaged between two
  *   calls is refused and not used.
  *
  * Memory
  *   Nothing is allocated and nothing is kept between two calls: there is no global state, so calls may run at the same time on different records.
  *   Each array goes as a pointer and its number of entries; it is aligned as its type is (8 bytes for 64-bit entries, none for bytes), may be NULL
- *   only where its length is 0, and no array that a call may write overlaps another. A step needs about 17 KiB of stack, the other calls 8 KiB at
+ *   only where its length is 0, and no array that a call may write overlaps another. A step needs about 14 KiB of stack, the other calls 8 KiB at
  *   most; see the README.
  *
  * Refusals
  *   A call answers 0, or the number of the first ground in the list below that it does not stand. A refused call has written nothing: columns and
- *   output are as they were, `ends` and `ledger` of its answer are those that it was given, its other fields are 0.
+ *   output are as they were, `boundaries` and `ledger` of its answer are those that it was given, its other fields are 0.
  *
  * Order of work
- *   Open; then step, with greatest_step to tell how long a step may be, and set_ends when a gate or a dose changes; settle before you write. A
- *   sheet holds no ledger: an opening starts all eight totals at 0, so keep the ledger before you open again.
+ *   Open; then step, with greatest_step to tell how long a step may be, and set_boundaries when a gate or a dose changes; transport before you
+ *   write. A sheet holds no ledger: an opening starts all eight totals at 0, so keep the ledger before you open again.
  *
  * The sheet (little-endian, at any address)
  *   bytes 0 edition 1, 4 length in bytes, 8 n, 12 cell length, 16 20 24 28 offsets of bed levels (i32), depths (u32), discharges (i64) and masses
- *   (u64), each u32; from 32 the left and from 56 the right end: u32 kind, depth, concentration, zero, i64 discharge; from 80 the columns.
+ *   (u64), each u32; from 32 the left and from 56 the right boundary: u32 kind, depth, concentration, reserved (0), i64 discharge; from 80
+ *   the columns.
  */
 #ifndef JEMMYFERN_H
 #define JEMMYFERN_H
@@ -53,10 +57,10 @@ extern "C" {
 
 /* Limits */
 #define JEMMYFERN_CELLS_MOST 512u                        /* cells, at least 1 */
-#define JEMMYFERN_DEPTH_MOST 4000000u                    /* micrometres: depth and base depth of a cell, depth of a fed end, |carried| */
+#define JEMMYFERN_DEPTH_MOST 4000000u                    /* micrometres: depth and base depth of a cell, depth of a fed boundary, |carried| */
 #define JEMMYFERN_VELOCITY_MOST 8000                     /* mm/s: |discharge| <= this times depth */
 #define JEMMYFERN_BED_MOST 100000000                     /* micrometres: |bed level| */
-#define JEMMYFERN_CONCENTRATION_MOST 500000u             /* of an end; mass of a cell <= this times its base depth */
+#define JEMMYFERN_CONCENTRATION_MOST 500000u             /* of a boundary; mass of a cell <= this times its base depth */
 #define JEMMYFERN_CELL_LENGTH_LEAST 100u                 /* mm */
 #define JEMMYFERN_CELL_LENGTH_MOST 100000u               /* mm */
 #define JEMMYFERN_TIME_STEP_MOST 1000u                   /* ms, at least 1 */
@@ -74,37 +78,38 @@ static inline size_t jemmyfern_cells(const uint8_t *sheet, size_t length)
     return n <= JEMMYFERN_CELLS_MOST ? n : 0;
 }
 
-/* Grounds for refusal, in checking order. Opening uses 1 to 7; every other call 4 to 9, then a step 10 to 13, a settling or end setting 13,
- * a write 14 and 15. */
+/* Grounds for refusal, in checking order. Opening uses 1 to 7; every other call 4 to 9, then a step 10 to 13, a transport or a setting of
+ * boundaries 13, a write 14 and 15. */
 enum jemmyfern_refusal {
     JEMMYFERN_ACCEPTED = 0,
-    JEMMYFERN_EDITION = 1,       /* the sheet is under 80 bytes or its edition is not 1 */
-    JEMMYFERN_SIZE = 2,          /* n is outside 1..512, or the length field is not both the bytes given and 80+24n */
-    JEMMYFERN_LAYOUT = 3,        /* an offset is under 80, a column passes the end, or two columns overlap */
-    JEMMYFERN_LENGTHS = 4,       /* the bed column's length is outside 1..512 (at opening: is not n), or another column's does not fit it */
-    JEMMYFERN_CELL_LENGTH = 5,   /* the cell length is out of range */
-    JEMMYFERN_ENDS = 6,          /* an end, held or newly given, breaks its kind, or its reserved field is not 0 */
-    JEMMYFERN_VALUES = 7,        /* a cell value is out of range */
-    JEMMYFERN_CARRIED = 8,       /* the carried water breaks its rules */
-    JEMMYFERN_LEDGER = 9,        /* a total exceeds 10^18 */
-    JEMMYFERN_TIME_STEP = 10,    /* t is outside 1..1,000 */
-    JEMMYFERN_CFL = 11,          /* t is too long for the fastest water */
-    JEMMYFERN_DEPTH = 12,        /* a new depth exceeds 4,000,000 */
-    JEMMYFERN_TOTAL = 13,        /* a total would pass 10^18 by this call */
-    JEMMYFERN_NOT_SETTLED = 14,  /* writing: some carried water is not 0 */
-    JEMMYFERN_SHORT_OUTPUT = 15  /* the output is shorter than the sheet */
+    JEMMYFERN_EDITION = 1,          /* the sheet is under 80 bytes or its edition is not 1 */
+    JEMMYFERN_SIZE = 2,             /* n is outside 1..512, or the length field is not both the bytes given and 80+24n */
+    JEMMYFERN_LAYOUT = 3,           /* an offset is under 80, a column passes the end, or two columns overlap */
+    JEMMYFERN_LENGTHS = 4,          /* the bed column's length is outside 1..512 (at opening: is not n), or another column's does not fit it */
+    JEMMYFERN_CELL_LENGTH = 5,      /* the cell length is out of range */
+    JEMMYFERN_BOUNDARIES = 6,       /* a boundary, held or newly given, breaks its kind, or its reserved field is not 0 */
+    JEMMYFERN_VALUES = 7,           /* a cell value is out of range */
+    JEMMYFERN_CARRIED = 8,          /* the carried water breaks its rules */
+    JEMMYFERN_LEDGER = 9,           /* a total exceeds 10^18 */
+    JEMMYFERN_TIME_STEP = 10,       /* t is outside 1..1,000 */
+    JEMMYFERN_CFL = 11,             /* t is too long for the fastest water */
+    JEMMYFERN_DEPTH = 12,           /* a new depth exceeds 4,000,000 */
+    JEMMYFERN_TOTAL = 13,           /* a total would pass 10^18 by this call */
+    JEMMYFERN_NOT_TRANSPORTED = 14, /* writing: some carried water is not 0; transport first */
+    JEMMYFERN_SHORT_OUTPUT = 15     /* the output is shorter than the sheet */
 };
 
-/* Kinds of end */
+/* Kinds of boundary */
 enum jemmyfern_kind {
     JEMMYFERN_WALL = 0, /* no water passes: depth, discharge and concentration 0 */
     JEMMYFERN_OPEN = 1, /* as if the reach went on: depth and discharge 0; what comes in has this concentration */
     JEMMYFERN_FED = 2   /* water of its own depth (1 or more), discharge and concentration stands there */
 };
 
+/* What lies beyond one side of the reach, the paper's 'end' */
 typedef struct {
     uint32_t kind;
-    uint32_t reserved; /* always 0 */
+    uint32_t reserved; /* always 0, the paper's 'zero field' */
     uint64_t depth;
     uint64_t concentration;
     int64_t discharge;
@@ -112,10 +117,10 @@ typedef struct {
 
 /* Left, right: both travel as one value. */
 typedef struct {
-    jemmyfern_boundary ends[2];
-} jemmyfern_ends;
+    jemmyfern_boundary boundaries[2];
+} jemmyfern_boundaries;
 
-/* What passed one end since the opening */
+/* What passed one boundary since the opening */
 typedef struct {
     uint64_t water_in;
     uint64_t water_out;
@@ -123,15 +128,16 @@ typedef struct {
     uint64_t mass_out;
 } jemmyfern_totals;
 
+/* What passed both boundaries, the paper's 'book' */
 typedef struct {
     jemmyfern_totals left;
     jemmyfern_totals right;
 } jemmyfern_ledger;
 
-/* Answers. `ends` and `ledger` are those to hand to the next call. */
+/* Answers. `boundaries` and `ledger` are those to hand to the next call. */
 typedef struct {
     uint32_t refusal;
-    jemmyfern_ends ends;
+    jemmyfern_boundaries boundaries;
     jemmyfern_ledger ledger;
 } jemmyfern_answer;
 
@@ -139,27 +145,28 @@ typedef struct {
 typedef struct {
     uint32_t refusal;
     uint64_t cell_length; /* mm */
-    jemmyfern_ends ends;
+    jemmyfern_boundaries boundaries;
     jemmyfern_ledger ledger; /* empty */
 } jemmyfern_opened;
 
 typedef struct {
     uint32_t refusal;
-    jemmyfern_ends ends;
+    jemmyfern_boundaries boundaries;
     jemmyfern_ledger ledger;
-    bool settled; /* the nutrient settled before the step */
+    bool transported; /* a transport came before the step */
 } jemmyfern_stepped;
 
 typedef struct {
     uint32_t refusal;
-    jemmyfern_ends ends;
+    jemmyfern_boundaries boundaries;
     jemmyfern_ledger ledger;
     uint64_t time; /* ms, 1 to 1,000 */
-    size_t place;  /* where the water is fastest: 0 the left end, 1..n the cells, n+1 the right end */
+    size_t place;  /* where the water is fastest: 0 the left boundary, 1..n the cells, n+1 the right boundary */
 } jemmyfern_greatest;
 
-/* The columns, in this order in every call: bed level, depth, discharge, mass and base depth of each of the n cells; carried water of the
- * n+1 interfaces. Each is a pointer and its number of entries. */
+/* The columns, in this order in every call: bed level (the paper's 'bottom'), depth, discharge, mass (the paper's 'nutrient') and base depth,
+ * the depth at the last transport, of each of the n cells; carried water, what crossed since the last transport, positive rightwards, of the n+1
+ * interfaces. Each is a pointer and its number of entries. */
 
 /* Opens a sheet into the columns. */
 jemmyfern_opened jemmyfern_open(const uint8_t *sheet, size_t sheet_length,
@@ -171,33 +178,33 @@ jemmyfern_opened jemmyfern_open(const uint8_t *sheet, size_t sheet_length,
 jemmyfern_stepped jemmyfern_step(const int64_t *bed, size_t bed_length, uint64_t *depth, size_t depth_length,
                                  int64_t *discharge, size_t discharge_length, uint64_t *mass, size_t mass_length,
                                  uint64_t *base, size_t base_length, int64_t *carried, size_t carried_length,
-                                 uint64_t cell_length, jemmyfern_ends held, jemmyfern_ledger ledger, uint64_t t);
+                                 uint64_t cell_length, jemmyfern_boundaries boundaries, jemmyfern_ledger ledger, uint64_t t);
 
-/* Moves the nutrient with the water carried since the last settling. */
+/* A transport, the paper's 'settling': moves the mass with the water carried since the last one. */
 jemmyfern_answer jemmyfern_transport(const int64_t *bed, size_t bed_length, const uint64_t *depth, size_t depth_length,
-                                  const int64_t *discharge, size_t discharge_length, uint64_t *mass, size_t mass_length,
-                                  uint64_t *base, size_t base_length, int64_t *carried, size_t carried_length,
-                                  uint64_t cell_length, jemmyfern_ends held, jemmyfern_ledger ledger);
+                                     const int64_t *discharge, size_t discharge_length, uint64_t *mass, size_t mass_length,
+                                     uint64_t *base, size_t base_length, int64_t *carried, size_t carried_length,
+                                     uint64_t cell_length, jemmyfern_boundaries boundaries, jemmyfern_ledger ledger);
 
-/* Sets both ends, settling first under those held so far. */
+/* Sets both boundaries, the paper's 'end setting', after a transport under those held so far. */
 jemmyfern_answer jemmyfern_set_boundaries(const int64_t *bed, size_t bed_length, const uint64_t *depth, size_t depth_length,
-                                    const int64_t *discharge, size_t discharge_length, uint64_t *mass, size_t mass_length,
-                                    uint64_t *base, size_t base_length, int64_t *carried, size_t carried_length,
-                                    uint64_t cell_length, jemmyfern_ends held, jemmyfern_ledger ledger,
-                                    jemmyfern_ends new_ends);
+                                          const int64_t *discharge, size_t discharge_length, uint64_t *mass, size_t mass_length,
+                                          uint64_t *base, size_t base_length, int64_t *carried, size_t carried_length,
+                                          uint64_t cell_length, jemmyfern_boundaries boundaries, jemmyfern_ledger ledger,
+                                          jemmyfern_boundaries new_boundaries);
 
 /* The greatest time step that the record allows now. */
 jemmyfern_greatest jemmyfern_greatest_step(const int64_t *bed, size_t bed_length, const uint64_t *depth, size_t depth_length,
                                            const int64_t *discharge, size_t discharge_length,
                                            const uint64_t *mass, size_t mass_length, const uint64_t *base, size_t base_length,
                                            const int64_t *carried, size_t carried_length,
-                                           uint64_t cell_length, jemmyfern_ends held, jemmyfern_ledger ledger);
+                                           uint64_t cell_length, jemmyfern_boundaries boundaries, jemmyfern_ledger ledger);
 
-/* Writes the settled record as a sheet at the start of out; bytes behind the sheet keep their values. */
+/* Writes the record as a sheet at the start of out; bytes behind the sheet keep their values. Transport first. */
 jemmyfern_answer jemmyfern_write(const int64_t *bed, size_t bed_length, const uint64_t *depth, size_t depth_length,
                                  const int64_t *discharge, size_t discharge_length, const uint64_t *mass, size_t mass_length,
                                  const uint64_t *base, size_t base_length, const int64_t *carried, size_t carried_length,
-                                 uint64_t cell_length, jemmyfern_ends held, jemmyfern_ledger ledger,
+                                 uint64_t cell_length, jemmyfern_boundaries boundaries, jemmyfern_ledger ledger,
                                  uint8_t *out, size_t out_length);
 
 #ifdef __cplusplus

@@ -13,7 +13,7 @@
 static int64_t bed[CELLS], discharge[CELLS], carried[CELLS + 1];
 static uint64_t depth[CELLS], mass[CELLS], base[CELLS];
 static uint8_t sheet[JEMMYFERN_SHEET_SIZE(CELLS)];
-static jemmyfern_ends ends;
+static jemmyfern_boundaries boundaries;
 static jemmyfern_ledger ledger;
 static uint64_t cell_length;
 static uint32_t refusal;
@@ -24,30 +24,30 @@ static void none(void) { refusal = 0; }
 static void open_(void)
 {
     jemmyfern_opened o = jemmyfern_open(sheet, sizeof sheet, COLUMNS);
-    refusal = o.refusal, cell_length = o.cell_length, ends = o.ends, ledger = o.ledger;
+    refusal = o.refusal, cell_length = o.cell_length, boundaries = o.boundaries, ledger = o.ledger;
 }
 
-static void greatest(void) { refusal = jemmyfern_greatest_step(COLUMNS, cell_length, ends, ledger).refusal; }
+static void greatest(void) { refusal = jemmyfern_greatest_step(COLUMNS, cell_length, boundaries, ledger).refusal; }
 
 static void step(void)
 {
-    jemmyfern_stepped s = jemmyfern_step(COLUMNS, cell_length, ends, ledger, 100);
+    jemmyfern_stepped s = jemmyfern_step(COLUMNS, cell_length, boundaries, ledger, 100);
     refusal = s.refusal, ledger = s.ledger;
 }
 
-static void set_ends(void)
+static void set_boundaries(void)
 {
-    jemmyfern_answer a = jemmyfern_set_boundaries(COLUMNS, cell_length, ends, ledger, ends);
+    jemmyfern_answer a = jemmyfern_set_boundaries(COLUMNS, cell_length, boundaries, ledger, boundaries);
     refusal = a.refusal, ledger = a.ledger;
 }
 
-static void settle(void)
+static void transport(void)
 {
-    jemmyfern_answer a = jemmyfern_transport(COLUMNS, cell_length, ends, ledger);
+    jemmyfern_answer a = jemmyfern_transport(COLUMNS, cell_length, boundaries, ledger);
     refusal = a.refusal, ledger = a.ledger;
 }
 
-static void write_(void) { refusal = jemmyfern_write(COLUMNS, cell_length, ends, ledger, sheet, sizeof sheet).refusal; }
+static void write_(void) { refusal = jemmyfern_write(COLUMNS, cell_length, boundaries, ledger, sheet, sizeof sheet).refusal; }
 
 /* Bytes from the first that the call painted over to the top */
 static size_t used(void (*call)(void))
@@ -84,7 +84,8 @@ int main(void)
     static const struct {
         const char *name;
         void (*call)(void);
-    } calls[] = {{"open", open_}, {"greatest step", greatest}, {"step", step}, {"set ends", set_ends}, {"settle", settle}, {"write", write_}};
+    } calls[] = {{"open", open_}, {"greatest step", greatest}, {"step", step}, {"set boundaries", set_boundaries},
+                 {"transport", transport}, {"write", write_}};
     make_sheet();
     size_t frame = used(none), most = 0;
     for (size_t i = 0; i < sizeof calls / sizeof *calls; i++) {

@@ -1,4 +1,4 @@
-//! What a record held before a run and holds after it, what passed its ends, and whether the two agree.
+//! What a record held before a run and holds after it, what passed its boundaries, and whether the two agree.
 
 use crate::record::Record;
 use crate::units::{cubic_metres, grams};
@@ -35,7 +35,7 @@ pub struct Balance {
 }
 
 impl Balance {
-    /// The balance of a settled record that was opened holding `before`.
+    /// The balance of a record, after a transport, that was opened holding `before`.
     pub fn of(before: Held, record: &Record) -> Balance {
         Balance {
             before,
@@ -73,7 +73,7 @@ impl Balance {
 impl fmt::Display for Balance {
     fn fmt(&self, f: &mut fmt::Formatter<'_>) -> fmt::Result {
         let length = self.cell_length;
-        let heads = ["", "water: µm", "m³/m", "nutrient: grains", "g/m"].map(String::from);
+        let heads = ["", "water: µm", "m³/m", "mass: grains", "g/m"].map(String::from);
         let mut lines = vec![heads];
         lines.extend(self.rows().map(|(name, water, mass)| {
             let (volume, weight) = (cubic_metres(water, length), grams(mass, length));

@@ -9,13 +9,13 @@ use jemmyfern::{Boundary, Greatest, Refusal, CELLS_MOST, TIME_STEP_MOST};
 /// The lines to say of a sheet that opened as `record`.
 pub fn describe(sheet: &[u8], record: &mut Record) -> Result<String, Refusal> {
     let greatest = record.with(|reach| reach.greatest_step())?;
-    let [left, right] = &record.ends;
+    let [left, right] = &record.boundaries;
     let held = Held::by(record);
     let length = record.cell_length;
     let lines = [
         size(sheet, record),
-        format!("left end       {}", end(left)),
-        format!("right end      {}", end(right)),
+        format!("left boundary  {}", boundary(left)),
+        format!("right boundary {}", boundary(right)),
         format!("bed level      {}", bed(record)),
         format!("depth          {}", depth(record)),
         format!("discharge      {}", discharge(record)),
@@ -26,7 +26,7 @@ pub fn describe(sheet: &[u8], record: &mut Record) -> Result<String, Refusal> {
             cubic_metres(held.water, length)
         ),
         format!(
-            "nutrient held  {} grains = {} g per metre of width",
+            "mass held      {} grains = {} g per metre of width",
             held.mass,
             grams(held.mass, length)
         ),
@@ -49,13 +49,13 @@ fn size(sheet: &[u8], record: &Record) -> String {
     format!("{cells} of {length} mm (at most {CELLS_MOST}), {whole} m in all; {bytes} bytes, columns in {order}")
 }
 
-fn end(end: &Boundary) -> String {
-    let concentration = end.concentration;
-    match end.kind {
+fn boundary(boundary: &Boundary) -> String {
+    let concentration = boundary.concentration;
+    match boundary.kind {
         0 => "wall".into(),
         1 => format!("open; water coming in has {concentration} µg/l"),
         _ => {
-            let (depth, discharge) = (end.depth, end.discharge);
+            let (depth, discharge) = (boundary.depth, boundary.discharge);
             let (m, m2) = (
                 metres_of_um(depth.into()),
                 square_metres_per_second(discharge),
@@ -123,17 +123,17 @@ fn greatest_step(greatest: &Greatest, record: &Record) -> String {
     }
 }
 
-/// No water in any cell, nor at a fed end, which has its own.
+/// No water in any cell, nor at a fed boundary, which has its own.
 fn all_dry(record: &Record) -> bool {
-    let fed = |end: &Boundary| end.kind == 2;
-    record.depth.iter().all(|&h| h == 0) && !record.ends.iter().any(fed)
+    let fed = |boundary: &Boundary| boundary.kind == 2;
+    record.depth.iter().all(|&h| h == 0) && !record.boundaries.iter().any(fed)
 }
 
 /// Where the water is fastest.
 pub fn place(place: usize, cells: usize) -> String {
     match place {
-        0 => "the left end".into(),
+        0 => "the left boundary".into(),
         p if p <= cells => format!("cell {}", p - 1),
-        _ => "the right end".into(),
+        _ => "the right boundary".into(),
     }
 }

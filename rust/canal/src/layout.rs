@@ -24,7 +24,7 @@ pub struct Header {
     pub cell_length: u32,
     /// of the four columns
     pub offsets: [u32; 4],
-    pub ends: [Boundary; 2],
+    pub boundaries: [Boundary; 2],
 }
 
 impl Header {
@@ -40,7 +40,7 @@ impl Header {
             cells: u32_at(sheet, CELLS_AT)?,
             cell_length: u32_at(sheet, 12)?,
             offsets,
-            ends: [end_at(sheet, 32)?, end_at(sheet, 56)?],
+            boundaries: [boundary_at(sheet, 32)?, boundary_at(sheet, 56)?],
         })
     }
 
@@ -63,7 +63,7 @@ impl Header {
     }
 }
 
-fn end_at(sheet: &[u8], at: usize) -> Option<Boundary> {
+fn boundary_at(sheet: &[u8], at: usize) -> Option<Boundary> {
     Some(Boundary {
         kind: u32_at(sheet, at)?,
         depth: u32_at(sheet, at + 4)?.into(),

@@ -6,7 +6,7 @@ use crate::record::Record;
 const WATER: &str = "#2f7fc1";
 const BED: &str = "#8a5a2b";
 const DISCHARGE: &str = "#b3401f";
-const NUTRIENT: &str = "#2e7d4f";
+const CONCENTRATION: &str = "#2e7d4f";
 
 /// Depth over bed, discharge and concentration.
 pub fn chart(title: &str, record: &Record) -> Chart {
@@ -61,7 +61,7 @@ fn concentration(record: &Record) -> Panel {
     Panel {
         title: "Concentration of the nutrient".into(),
         y_label: format!("concentration ({unit})"),
-        series: vec![Series::line("", NUTRIENT, points)],
+        series: vec![Series::line("", CONCENTRATION, points)],
         area: None,
     }
 }

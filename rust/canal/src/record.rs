@@ -13,7 +13,7 @@ use jemmyfern::{sheet_size, Boundary, Columns, Ledger, Reach, Refusal, CELLS_MOS
 /// let mut record = Record::open(&still.draft_sheet())?;
 /// record.with(|reach| {
 ///     reach.step(reach.greatest_step()?.time)?;
-///     reach.settle()
+///     reach.transport()
 /// })?;
 /// assert_eq!(record.depth, still.depth);
 /// # Ok(())
@@ -25,14 +25,14 @@ pub struct Record {
     pub depth: Vec<u64>,
     pub discharge: Vec<i64>,
     pub mass: Vec<u64>,
-    /// depth at the last settling
+    /// depth at the last transport
     pub base: Vec<u64>,
     /// one entry more than there are cells
     pub carried: Vec<i64>,
     /// mm
     pub cell_length: u64,
     /// left, right
-    pub ends: [Boundary; 2],
+    pub boundaries: [Boundary; 2],
     pub ledger: Ledger,
 }
 
@@ -47,7 +47,7 @@ impl Record {
             base: vec![0; cells],
             carried: vec![0; cells + 1],
             cell_length: 1000,
-            ends: [Boundary::WALL; 2],
+            boundaries: [Boundary::WALL; 2],
             ledger: Ledger::default(),
         }
     }
@@ -59,8 +59,8 @@ impl Record {
         let cells = (cells as usize).min(CELLS_MOST);
         let mut record = Record::new(cells);
         let reach = Reach::open(sheet, columns(&mut record))?;
-        let (cell_length, ends, ledger) = (reach.cell_length, reach.ends, reach.ledger);
-        (record.cell_length, record.ends, record.ledger) = (cell_length, ends, ledger);
+        let (cell_length, boundaries, ledger) = (reach.cell_length, reach.boundaries, reach.ledger);
+        (record.cell_length, record.boundaries, record.ledger) = (cell_length, boundaries, ledger);
         Ok(record)
     }
 
@@ -68,22 +68,22 @@ impl Record {
         self.bed.len()
     }
 
-    /// Lends the columns to the library's calls, and keeps the ends and the ledger that they leave.
+    /// Lends the columns to the library's calls, and keeps the boundaries and the ledger that they leave.
     pub fn with<T>(&mut self, f: impl FnOnce(&mut Reach<'_>) -> T) -> T {
-        let (cell_length, ends, ledger) = (self.cell_length, self.ends, self.ledger);
+        let (cell_length, boundaries, ledger) = (self.cell_length, self.boundaries, self.ledger);
         let mut reach = Reach {
             columns: columns(self),
             cell_length,
-            ends,
+            boundaries,
             ledger,
         };
         let answer = f(&mut reach);
-        let (cell_length, ends, ledger) = (reach.cell_length, reach.ends, reach.ledger);
-        (self.cell_length, self.ends, self.ledger) = (cell_length, ends, ledger);
+        let (cell_length, boundaries, ledger) = (reach.cell_length, reach.boundaries, reach.ledger);
+        (self.cell_length, self.boundaries, self.ledger) = (cell_length, boundaries, ledger);
         answer
     }
 
-    /// The settled record as a sheet, by the library's own writing.
+    /// The record as a sheet, by the library's own writing. Transport first.
     pub fn to_sheet(&mut self) -> Result<Vec<u8>, Refusal> {
         let mut sheet = vec![0; sheet_size(self.cells())];
         self.with(|reach| reach.write(&mut sheet))?;
@@ -96,7 +96,9 @@ impl Record {
     pub fn draft_sheet(&self) -> Vec<u8> {
         let mut sheet = Vec::with_capacity(sheet_size(self.cells()));
         self.put_header(&mut sheet);
-        self.ends.iter().for_each(|end| put_end(&mut sheet, end));
+        for boundary in &self.boundaries {
+            put_boundary(&mut sheet, boundary);
+        }
         put_all(&mut sheet, &self.bed, |&z| narrow_signed(z).to_le_bytes());
         put_all(&mut sheet, &self.depth, |&h| narrow(h).to_le_bytes());
         put_all(&mut sheet, &self.discharge, |q| q.to_le_bytes());
@@ -129,12 +131,12 @@ fn columns(record: &mut Record) -> Columns<'_> {
     }
 }
 
-fn put_end(sheet: &mut Vec<u8>, end: &Boundary) {
-    let (depth, concentration) = (narrow(end.depth), narrow(end.concentration));
-    for field in [end.kind, depth, concentration, end.reserved] {
+fn put_boundary(sheet: &mut Vec<u8>, boundary: &Boundary) {
+    let (depth, concentration) = (narrow(boundary.depth), narrow(boundary.concentration));
+    for field in [boundary.kind, depth, concentration, boundary.reserved] {
         sheet.extend(field.to_le_bytes());
     }
-    sheet.extend(end.discharge.to_le_bytes());
+    sheet.extend(boundary.discharge.to_le_bytes());
 }
 
 fn put_all<T, const N: usize>(sheet: &mut Vec<u8>, column: &[T], bytes: impl Fn(&T) -> [u8; N]) {

@@ -12,7 +12,7 @@ pub struct Made {
     pub time: u64,
     pub steps: u64,
     /// the last one, at the end of the run, included
-    pub settlings: u64,
+    pub transports: u64,
 }
 
 /// Where a refused call stopped a run. The record is as it was before that call.
@@ -26,7 +26,7 @@ pub struct Stopped {
     pub greatest: Option<Greatest>,
 }
 
-/// Steps for `time` ms and settles. The steps are of `step` ms, or the greatest that the record allows at each; the last one is cut to end the
+/// Steps for `time` ms and transports. The steps are of `step` ms, or the greatest that the record allows at each; the last one is cut to end the
 /// run exactly. `progress` is told what has been made after each step.
 pub fn run(
     record: &mut Record,
@@ -46,11 +46,11 @@ pub fn run(
             })?;
             made.time += t;
             made.steps += 1;
-            made.settlings += u64::from(stepped.settled);
+            made.transports += u64::from(stepped.transported);
             progress(&made);
         }
-        reach.settle().map_err(|refusal| at(refusal, made))?;
-        made.settlings += 1;
+        reach.transport().map_err(|refusal| at(refusal, made))?;
+        made.transports += 1;
         Ok(made)
     })
 }

@@ -1,5 +1,6 @@
 //! A controller's loop: opens a sheet, follows an hour of canal time with the greatest steps, changes the dose at the head twice, prints what
-//! passed the ends, writes the sheet and opens it again.
+//! passed the boundaries, writes the sheet and opens it again. What it prints keeps the paper's words: a settling is a transport, nutrient is
+//! mass.
 //!
 //!     controller IN.sheet OUT.sheet
 
@@ -60,44 +61,44 @@ impl fmt::Display for NoFile {
 
 impl Error for NoFile {}
 
-/// The head's dose: the left end as it is, with another concentration.
-fn with_dose(ends: [Boundary; 2], concentration: u64) -> [Boundary; 2] {
+/// The head's dose: the left boundary as it is, with another concentration.
+fn with_dose(boundaries: [Boundary; 2], concentration: u64) -> [Boundary; 2] {
     let head = Boundary {
         concentration,
-        ..ends[0]
+        ..boundaries[0]
     };
-    [head, ends[1]]
+    [head, boundaries[1]]
 }
 
-fn print_totals(end: &str, t: &Totals) {
+fn print_totals(side: &str, t: &Totals) {
     println!(
-        "{end} water in {} out {} nutrient in {} out {}",
+        "{side} water in {} out {} nutrient in {} out {}",
         t.water_in, t.water_out, t.mass_in, t.mass_out
     );
 }
 
-/// An hour of canal time; tells the steps and the settlings.
+/// An hour of canal time; tells the steps and the transports.
 fn follow(reach: &mut Reach) -> Result<(u64, u64), Box<dyn Error>> {
     let mut doses = DOSES.iter().peekable();
-    let (mut elapsed, mut steps, mut settlings) = (0, 0, 0);
+    let (mut elapsed, mut steps, mut transports) = (0, 0, 0);
     while elapsed < HOUR_MS {
         if let Some((_, dose)) = doses.next_if(|(from, _)| elapsed >= *from) {
-            reach.set_ends(with_dose(reach.ends, *dose))?;
-            settlings += 1;
+            reach.set_boundaries(with_dose(reach.boundaries, *dose))?;
+            transports += 1;
         }
         let t = reach.greatest_step()?.time.min(HOUR_MS - elapsed);
-        settlings += u64::from(reach.step(t)?.settled);
+        transports += u64::from(reach.step(t)?.transported);
         elapsed += t;
         steps += 1;
     }
-    reach.settle()?;
-    Ok((steps, settlings + 1))
+    reach.transport()?;
+    Ok((steps, transports + 1))
 }
 
 /// Everything that a sheet holds is the same.
 fn same_record(a: &Reach, b: &Reach) -> bool {
     let (c, d) = (&a.columns, &b.columns);
-    (a.cell_length, a.ends) == (b.cell_length, b.ends)
+    (a.cell_length, a.boundaries) == (b.cell_length, b.boundaries)
         && (&*c.bed, &*c.depth, &*c.discharge) == (&*d.bed, &*d.depth, &*d.discharge)
         && (&*c.mass, &*c.base, &*c.carried) == (&*d.mass, &*d.base, &*d.carried)
 }
@@ -107,8 +108,8 @@ fn run(from: &str, to: &str) -> Result<(), Box<dyn Error>> {
     let mut memory = Memory::new();
     let mut reach = Reach::open(&sheet, memory.lend(cells_in(&sheet)))?;
     println!("cells {} of {} mm", reach.cells(), reach.cell_length);
-    let (steps, settlings) = follow(&mut reach)?;
-    println!("steps {steps} settlings {settlings}");
+    let (steps, transports) = follow(&mut reach)?;
+    println!("steps {steps} settlings {transports}");
     print_totals("left", &reach.ledger.left);
     print_totals("right", &reach.ledger.right);
     let mut out = [0; sheet_size(CELLS_MOST)];

@@ -22,7 +22,7 @@ static void layouts(void)
     LAYOUT(boundary, depth);
     LAYOUT(boundary, concentration);
     LAYOUT(boundary, discharge);
-    SIZE(ends);
+    SIZE(boundaries);
     SIZE(totals);
     LAYOUT(totals, water_in);
     LAYOUT(totals, water_out);
@@ -33,21 +33,21 @@ static void layouts(void)
     LAYOUT(ledger, right);
     SIZE(answer);
     LAYOUT(answer, refusal);
-    LAYOUT(answer, ends);
+    LAYOUT(answer, boundaries);
     LAYOUT(answer, ledger);
     SIZE(opened);
     LAYOUT(opened, refusal);
     LAYOUT(opened, cell_length);
-    LAYOUT(opened, ends);
+    LAYOUT(opened, boundaries);
     LAYOUT(opened, ledger);
     SIZE(stepped);
     LAYOUT(stepped, refusal);
-    LAYOUT(stepped, ends);
+    LAYOUT(stepped, boundaries);
     LAYOUT(stepped, ledger);
-    LAYOUT(stepped, settled);
+    LAYOUT(stepped, transported);
     SIZE(greatest);
     LAYOUT(greatest, refusal);
-    LAYOUT(greatest, ends);
+    LAYOUT(greatest, boundaries);
     LAYOUT(greatest, ledger);
     LAYOUT(greatest, time);
     LAYOUT(greatest, place);
@@ -59,14 +59,14 @@ static void print_totals(const jemmyfern_totals *t)
 }
 
 /* An answer, then all that was lent */
-static void print_answer(const char *call, uint32_t refusal, const jemmyfern_ends *held, const jemmyfern_ledger *ledger, uint64_t more,
-                         uint64_t still_more)
+static void print_answer(const char *call, uint32_t refusal, const jemmyfern_boundaries *held, const jemmyfern_ledger *ledger,
+                         uint64_t more, uint64_t still_more)
 {
-    const jemmyfern_boundary *ends = held->ends;
     printf("%s %" PRIu32 " %" PRIu64 " %" PRIu64, call, refusal, more, still_more);
-    for (int i = 0; i < 2; i++)
-        printf(" %" PRIu32 " %" PRIu32 " %" PRIu64 " %" PRIu64 " %" PRId64, ends[i].kind, ends[i].reserved, ends[i].depth,
-               ends[i].concentration, ends[i].discharge);
+    for (int i = 0; i < 2; i++) {
+        const jemmyfern_boundary *b = &held->boundaries[i];
+        printf(" %" PRIu32 " %" PRIu32 " %" PRIu64 " %" PRIu64 " %" PRId64, b->kind, b->reserved, b->depth, b->concentration, b->discharge);
+    }
     print_totals(&ledger->left);
     print_totals(&ledger->right);
     for (size_t i = 0; i < n; i++)
@@ -91,35 +91,35 @@ int main(int argc, char **argv)
     n = jemmyfern_cells(sheet, length);
 
     jemmyfern_opened o = jemmyfern_open(sheet, length, COLUMNS);
-    print_answer("open", o.refusal, &o.ends, &o.ledger, o.cell_length, 0);
+    print_answer("open", o.refusal, &o.boundaries, &o.ledger, o.cell_length, 0);
     uint64_t x = o.cell_length;
-    jemmyfern_ends held = o.ends;
+    jemmyfern_boundaries held = o.boundaries;
     jemmyfern_ledger ledger = o.ledger;
 
     jemmyfern_greatest g = jemmyfern_greatest_step(COLUMNS, x, held, ledger);
-    print_answer("greatest", g.refusal, &g.ends, &g.ledger, g.time, g.place);
+    print_answer("greatest", g.refusal, &g.boundaries, &g.ledger, g.time, g.place);
     const uint64_t times[] = {g.time, 0, g.time, g.time + 1, 1001};
     for (size_t i = 0; i < sizeof times / sizeof *times; i++) {
         jemmyfern_stepped s = jemmyfern_step(COLUMNS, x, held, ledger, times[i]);
-        print_answer("step", s.refusal, &s.ends, &s.ledger, s.settled, 0);
+        print_answer("step", s.refusal, &s.boundaries, &s.ledger, s.transported, 0);
         ledger = s.ledger;
     }
     jemmyfern_answer a = jemmyfern_write(COLUMNS, x, held, ledger, out, JEMMYFERN_SHEET_SIZE(n));
-    print_answer("write", a.refusal, &a.ends, &a.ledger, 0, 0);
-    jemmyfern_ends turned = {{held.ends[1], held.ends[0]}};
+    print_answer("write", a.refusal, &a.boundaries, &a.ledger, 0, 0);
+    jemmyfern_boundaries turned = {{held.boundaries[1], held.boundaries[0]}};
     a = jemmyfern_set_boundaries(COLUMNS, x, held, ledger, turned);
-    print_answer("set", a.refusal, &a.ends, &a.ledger, 0, 0);
-    held = a.ends;
+    print_answer("set", a.refusal, &a.boundaries, &a.ledger, 0, 0);
+    held = a.boundaries;
     ledger = a.ledger;
     jemmyfern_stepped s = jemmyfern_step(COLUMNS, x, held, ledger, 1);
-    print_answer("step", s.refusal, &s.ends, &s.ledger, s.settled, 0);
+    print_answer("step", s.refusal, &s.boundaries, &s.ledger, s.transported, 0);
     ledger = s.ledger;
     a = jemmyfern_transport(COLUMNS, x, held, ledger);
-    print_answer("settle", a.refusal, &a.ends, &a.ledger, 0, 0);
+    print_answer("transport", a.refusal, &a.boundaries, &a.ledger, 0, 0);
     ledger = a.ledger;
     a = jemmyfern_write(COLUMNS, x, held, ledger, out, JEMMYFERN_SHEET_SIZE(n) - 1);
-    print_answer("write", a.refusal, &a.ends, &a.ledger, 0, 0);
+    print_answer("write", a.refusal, &a.boundaries, &a.ledger, 0, 0);
     a = jemmyfern_write(COLUMNS, x, held, ledger, out, JEMMYFERN_SHEET_SIZE(n) + 10);
-    print_answer("write", a.refusal, &a.ends, &a.ledger, 0, 0);
+    print_answer("write", a.refusal, &a.boundaries, &a.ledger, 0, 0);
     return 0;
 }

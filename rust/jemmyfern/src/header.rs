@@ -3,7 +3,7 @@
 #[path = "../tests/cc/mod.rs"]
 mod cc;
 
-use crate::raw::{self, Answer, Ends, Greatest, Opened, Stepped};
+use crate::raw::{self, Answer, Boundaries, Greatest, Opened, Stepped};
 use crate::{cells_in, sheet_size, Boundary, Ledger, Totals};
 use std::fmt::Write;
 use std::mem::{align_of, offset_of, size_of};
@@ -28,13 +28,29 @@ fn layouts() -> String {
         concentration,
         discharge
     );
-    layout!(text, "ends", Ends);
+    layout!(text, "boundaries", Boundaries);
     layout!(text, "totals", Totals, water_in, water_out, mass_in, mass_out);
     layout!(text, "ledger", Ledger, left, right);
-    layout!(text, "answer", Answer, refusal, ends, ledger);
-    layout!(text, "opened", Opened, refusal, cell_length, ends, ledger);
-    layout!(text, "stepped", Stepped, refusal, ends, ledger, settled);
-    layout!(text, "greatest", Greatest, refusal, ends, ledger, time, place);
+    layout!(text, "answer", Answer, refusal, boundaries, ledger);
+    layout!(
+        text,
+        "opened",
+        Opened,
+        refusal,
+        cell_length,
+        boundaries,
+        ledger
+    );
+    layout!(
+        text,
+        "stepped",
+        Stepped,
+        refusal,
+        boundaries,
+        ledger,
+        transported
+    );
+    layout!(text, "greatest", Greatest, refusal, boundaries, ledger, time, place);
     text
 }
 
@@ -82,20 +98,20 @@ impl Record {
         &mut self,
         call: &str,
         refusal: u32,
-        ends: &[Boundary; 2],
+        boundaries: &[Boundary; 2],
         k: &Ledger,
         more: [u64; 2],
     ) {
         let t = &mut self.text;
         write!(t, "{call} {refusal} {} {}", more[0], more[1]).unwrap();
-        for e in ends {
+        for boundary in boundaries {
             let Boundary {
                 kind,
                 reserved,
                 depth,
                 concentration,
                 discharge,
-            } = e;
+            } = boundary;
             write!(t, " {kind} {reserved} {depth} {concentration} {discharge}").unwrap();
         }
         for side in [&k.left, &k.right] {
@@ -123,16 +139,22 @@ impl Record {
         t.push('\n');
     }
 
-    fn step(&mut self, x: u64, held: Ends, ledger: Ledger, t: u64) -> Ledger {
+    fn step(&mut self, x: u64, held: Boundaries, ledger: Ledger, t: u64) -> Ledger {
         let s = call!(jemmyfern_step, self, x, held, ledger, t);
-        self.print("step", s.refusal, &s.ends, &s.ledger, [s.settled.into(), 0]);
+        self.print(
+            "step",
+            s.refusal,
+            &s.boundaries,
+            &s.ledger,
+            [s.transported.into(), 0],
+        );
         s.ledger
     }
 
-    fn write(&mut self, x: u64, held: Ends, ledger: Ledger, length: usize) {
+    fn write(&mut self, x: u64, held: Boundaries, ledger: Ledger, length: usize) {
         let out = self.out.as_mut_ptr();
         let a = call!(jemmyfern_write, self, x, held, ledger, out, length);
-        self.print("write", a.refusal, &a.ends, &a.ledger, [0, 0]);
+        self.print("write", a.refusal, &a.boundaries, &a.ledger, [0, 0]);
     }
 }
 
@@ -158,13 +180,25 @@ fn calls(sheet: &[u8]) -> String {
             n + 1,
         )
     };
-    r.print("open", o.refusal, &o.ends, &o.ledger, [o.cell_length, 0]);
-    let (x, mut held, mut ledger) = (o.cell_length, Ends { ends: o.ends }, o.ledger);
+    r.print(
+        "open",
+        o.refusal,
+        &o.boundaries,
+        &o.ledger,
+        [o.cell_length, 0],
+    );
+    let (x, mut held, mut ledger) = (
+        o.cell_length,
+        Boundaries {
+            boundaries: o.boundaries,
+        },
+        o.ledger,
+    );
     let g = call!(jemmyfern_greatest_step, r, x, held, ledger);
     r.print(
         "greatest",
         g.refusal,
-        &g.ends,
+        &g.boundaries,
         &g.ledger,
         [g.time, g.place as u64],
     );
@@ -172,25 +206,25 @@ fn calls(sheet: &[u8]) -> String {
         ledger = r.step(x, held, ledger, t);
     }
     r.write(x, held, ledger, sheet_size(n));
-    let turned = Ends {
-        ends: [held.ends[1], held.ends[0]],
+    let turned = Boundaries {
+        boundaries: [held.boundaries[1], held.boundaries[0]],
     };
     let a = call!(jemmyfern_set_boundaries, r, x, held, ledger, turned);
-    r.print("set", a.refusal, &a.ends, &a.ledger, [0, 0]);
-    held.ends = a.ends;
+    r.print("set", a.refusal, &a.boundaries, &a.ledger, [0, 0]);
+    held.boundaries = a.boundaries;
     ledger = r.step(x, held, a.ledger, 1);
     let a = call!(jemmyfern_transport, r, x, held, ledger);
-    r.print("settle", a.refusal, &a.ends, &a.ledger, [0, 0]);
+    r.print("transport", a.refusal, &a.boundaries, &a.ledger, [0, 0]);
     r.write(x, held, a.ledger, sheet_size(n) - 1);
     r.write(x, held, a.ledger, sheet_size(n) + 10);
     r.text
 }
 
-/// Sheets that open, two of them with a fed and an open end, and sheets that do not.
+/// Sheets that open, two of them with a fed and an open boundary, and sheets that do not.
 fn sheets() -> Vec<Vec<u8>> {
     let example = std::fs::read(cc::kept("examples/reach.sheet")).expect("the example's sheet");
     let mut list = vec![example.clone(), example[..79].to_vec(), Vec::new()];
-    // edition, number of cells, cell length, an offset, an end's kind, a depth
+    // edition, number of cells, cell length, an offset, a boundary's kind, a depth
     for (at, byte) in [
         (0, 2),
         (8, 0),

@@ -1,7 +1,8 @@
-//! A reach of an irrigation canal in whole units: depth, discharge and nutrient along its cells, and a ledger of what passed its two ends.
+//! A reach of an irrigation canal in whole units: depth, discharge and mass along its cells, and a ledger of what passed its two boundaries.
 //!
 //! The calls are proved (see the repository's README for what that covers); this crate lends them the caller's slices and turns the paper's
-//! numbers of refusal into an enum. Nothing is allocated, and no standard library is needed.
+//! numbers of refusal into an enum. Nothing is allocated, and no standard library is needed. The words are those of the field; where the paper
+//! has another, it stands once in quotes at the definition.
 //!
 //! Units: bed level and depth in micrometres, discharge = depth times velocity in micrometres times mm/s, cell length in mm, time step in ms,
 //! concentration in micrograms per litre, mass in grains (one micrometre of depth at concentration 1).
@@ -39,7 +40,7 @@ use core::fmt;
 /// The greatest number of cells.
 pub const CELLS_MOST: usize = 512;
 
-/// The greatest depth of a cell or a fed end, and size of carried water, micrometres.
+/// The greatest depth of a cell or a fed boundary, and size of carried water, micrometres.
 pub const DEPTH_MOST: u64 = 4_000_000;
 
 /// The greatest size of a velocity, mm/s: a discharge is at most this times the depth.
@@ -78,19 +79,19 @@ pub fn cells_in(sheet: &[u8]) -> usize {
     }
 }
 
-/// What lies beyond an end of the reach.
+/// What lies beyond one side of the reach, the paper's 'end'.
 #[repr(C)]
 #[derive(Clone, Copy, Debug, PartialEq, Eq, Default)]
 pub struct Boundary {
     /// 0 wall, 1 open, 2 fed
     pub kind: u32,
-    /// always 0
+    /// always 0, the paper's 'zero field'
     pub reserved: u32,
-    /// micrometres; of a fed end alone
+    /// micrometres; of a fed boundary alone
     pub depth: u64,
-    /// micrograms per litre; of a fed or an open end
+    /// micrograms per litre; of a fed or an open boundary
     pub concentration: u64,
-    /// micrometres times mm/s, positive rightwards; of a fed end alone
+    /// micrometres times mm/s, positive rightwards; of a fed boundary alone
     pub discharge: i64,
 }
 
@@ -113,7 +114,7 @@ impl Boundary {
         }
     }
 
-    /// Water of this depth, discharge and concentration stands beyond the end.
+    /// Water of this depth, discharge and concentration stands there.
     pub const fn fed(depth: u64, discharge: i64, concentration: u64) -> Boundary {
         Boundary {
             kind: 2,
@@ -125,7 +126,7 @@ impl Boundary {
     }
 }
 
-/// What passed one end since the opening: water in micrometres of depth of a cell, mass in grains.
+/// What passed one boundary since the opening: water in micrometres of depth of a cell, mass in grains.
 #[repr(C)]
 #[derive(Clone, Copy, Debug, PartialEq, Eq, Default)]
 pub struct Totals {
@@ -135,7 +136,7 @@ pub struct Totals {
     pub mass_out: u64,
 }
 
-/// What passed both ends since the opening.
+/// What passed both boundaries since the opening, the paper's 'book'.
 #[repr(C)]
 #[derive(Clone, Copy, Debug, PartialEq, Eq, Default)]
 pub struct Ledger {
@@ -157,8 +158,8 @@ pub enum Refusal {
     Lengths = 4,
     /// The cell length is outside 100..100,000 mm.
     CellLength = 5,
-    /// An end, held or newly given, breaks its kind, or its reserved field is not 0.
-    Ends = 6,
+    /// A boundary, held or newly given, breaks its kind, or its reserved field is not 0.
+    Boundaries = 6,
     /// A cell value is out of range.
     Values = 7,
     /// The carried water breaks its rules.
@@ -167,14 +168,14 @@ pub enum Refusal {
     Ledger = 9,
     /// The time step is outside 1..1,000 ms.
     TimeStep = 10,
-    /// The time step is too long for the fastest cell or fed end (CFL).
+    /// The time step is too long for the fastest cell or fed boundary (CFL).
     Cfl = 11,
     /// A new depth would exceed 4,000,000 micrometres.
     Depth = 12,
     /// A total would pass 10^18 by this call.
     Total = 13,
-    /// Writing: the record is not settled.
-    NotSettled = 14,
+    /// Writing: some carried water is not 0; transport first.
+    NotTransported = 14,
     /// The output is shorter than the sheet.
     ShortOutput = 15,
 }
@@ -186,7 +187,7 @@ impl Refusal {
         Refusal::Layout,
         Refusal::Lengths,
         Refusal::CellLength,
-        Refusal::Ends,
+        Refusal::Boundaries,
         Refusal::Values,
         Refusal::Carried,
         Refusal::Ledger,
@@ -194,7 +195,7 @@ impl Refusal {
         Refusal::Cfl,
         Refusal::Depth,
         Refusal::Total,
-        Refusal::NotSettled,
+        Refusal::NotTransported,
         Refusal::ShortOutput,
     ];
 
@@ -211,7 +212,7 @@ impl Refusal {
             Refusal::Layout => "an offset is under 80, a column passes the end, or two columns overlap",
             Refusal::Lengths => "the lent columns do not have the lengths that the cells want",
             Refusal::CellLength => "the cell length is outside 100..100000 mm",
-            Refusal::Ends => "an end breaks the rules of its kind",
+            Refusal::Boundaries => "a boundary breaks the rules of its kind",
             Refusal::Values => "a cell value is out of range",
             Refusal::Carried => "the carried water breaks its rules",
             Refusal::Ledger => "a total of the ledger exceeds 10^18",
@@ -219,7 +220,7 @@ impl Refusal {
             Refusal::Cfl => "the time step is too long for the fastest water (CFL)",
             Refusal::Depth => "a depth would exceed 4000000 micrometres",
             Refusal::Total => "a total of the ledger would pass 10^18 by this call",
-            Refusal::NotSettled => "the record is not settled",
+            Refusal::NotTransported => "some carried water is not 0; transport before writing",
             Refusal::ShortOutput => "the output is shorter than the sheet",
         }
     }
@@ -241,25 +242,25 @@ impl core::error::Error for Refusal {}
 /// The columns that the caller lends: n entries each, n + 1 of carried water.
 #[derive(Debug)]
 pub struct Columns<'a> {
-    /// bed level z of each cell, -100,000,000..100,000,000 micrometres
+    /// bed level z of each cell, the paper's 'bottom', -100,000,000..100,000,000 micrometres
     pub bed: &'a mut [i64],
     /// depth h, 0..4,000,000 micrometres
     pub depth: &'a mut [u64],
     /// discharge q, at most 8,000 times the depth either way
     pub discharge: &'a mut [i64],
-    /// mass m, at most 500,000 times the base depth
+    /// mass m, the paper's 'nutrient', at most 500,000 times the base depth
     pub mass: &'a mut [u64],
-    /// base depth b: the depth at the last settling
+    /// base depth b: the depth at the last transport
     pub base: &'a mut [u64],
-    /// carried water c of each interface since the last settling, positive rightwards
+    /// carried water c of each interface since the last transport, positive rightwards
     pub carried: &'a mut [i64],
 }
 
 /// What an accepted step tells beside the new record.
 #[derive(Clone, Copy, Debug, PartialEq, Eq)]
 pub struct Stepped {
-    /// the nutrient settled first
-    pub settled: bool,
+    /// a transport came before the step
+    pub transported: bool,
 }
 
 /// The greatest time step that the record allows.
@@ -267,7 +268,7 @@ pub struct Stepped {
 pub struct Greatest {
     /// ms, 1..1,000
     pub time: u64,
-    /// where the water is fastest: 0 the left end, 1..n the cells, n + 1 the right end
+    /// where the water is fastest: 0 the left boundary, 1..n the cells, n + 1 the right boundary
     pub place: usize,
 }
 
@@ -278,7 +279,7 @@ pub struct Reach<'a> {
     /// mm
     pub cell_length: u64,
     /// left, right
-    pub ends: [Boundary; 2],
+    pub boundaries: [Boundary; 2],
     pub ledger: Ledger,
 }
 
@@ -293,7 +294,7 @@ fn refused(number: u32) -> Result<(), Refusal> {
 /// Calls a C function with the record: `$water` and `$slice` say how depth and discharge, and how the other three columns are lent.
 macro_rules! call {
     ($function:ident, $reach:expr, $water:ident, $slice:ident $(, $more:expr)*) => {{
-        let Reach { columns: c, cell_length, ends, ledger } = $reach;
+        let Reach { columns: c, cell_length, boundaries, ledger } = $reach;
         // SAFETY: each pointer comes with the length of its slice (of an empty one it is aligned and not read); no two overlap, since the
         // columns and the output are lent exclusively
         unsafe {
@@ -304,7 +305,7 @@ macro_rules! call {
                 c.mass.$slice(), c.mass.len(),
                 c.base.$slice(), c.base.len(),
                 c.carried.$slice(), c.carried.len(),
-                *cell_length, raw::Ends { ends: *ends }, *ledger $(, $more)*
+                *cell_length, raw::Boundaries { boundaries: *boundaries }, *ledger $(, $more)*
             )
         }
     }};
@@ -337,7 +338,7 @@ impl<'a> Reach<'a> {
         Ok(Reach {
             columns: c,
             cell_length: o.cell_length,
-            ends: o.ends,
+            boundaries: o.boundaries,
             ledger: o.ledger,
         })
     }
@@ -347,30 +348,38 @@ impl<'a> Reach<'a> {
         self.columns.bed.len()
     }
 
-    /// One water step of `t` ms, with a settling before it where the paper's test asks for one.
+    /// One water step of `t` ms, with a transport before it where the paper's test asks for one.
     pub fn step(&mut self, t: u64) -> Result<Stepped, Refusal> {
         let a = call!(jemmyfern_step, &mut *self, as_mut_ptr, as_mut_ptr, t);
         refused(a.refusal)?;
-        (self.ends, self.ledger) = (a.ends, a.ledger);
-        Ok(Stepped { settled: a.settled })
+        (self.boundaries, self.ledger) = (a.boundaries, a.ledger);
+        Ok(Stepped {
+            transported: a.transported,
+        })
     }
 
-    /// Moves the nutrient with the water carried since the last settling.
-    pub fn settle(&mut self) -> Result<(), Refusal> {
+    /// A transport, the paper's 'settling': moves the mass with the water carried since the last one.
+    pub fn transport(&mut self) -> Result<(), Refusal> {
         let a = call!(jemmyfern_transport, &mut *self, as_ptr, as_mut_ptr);
         self.take(a)
     }
 
-    /// Sets both ends, settling first under those held so far.
-    pub fn set_ends(&mut self, ends: [Boundary; 2]) -> Result<(), Refusal> {
-        let new = raw::Ends { ends };
-        let a = call!(jemmyfern_set_boundaries, &mut *self, as_ptr, as_mut_ptr, new);
+    /// Sets both boundaries, the paper's 'end setting', after a transport under those held so far.
+    pub fn set_boundaries(&mut self, boundaries: [Boundary; 2]) -> Result<(), Refusal> {
+        let new = raw::Boundaries { boundaries };
+        let a = call!(
+            jemmyfern_set_boundaries,
+            &mut *self,
+            as_ptr,
+            as_mut_ptr,
+            new
+        );
         self.take(a)
     }
 
     fn take(&mut self, a: raw::Answer) -> Result<(), Refusal> {
         refused(a.refusal)?;
-        (self.ends, self.ledger) = (a.ends, a.ledger);
+        (self.boundaries, self.ledger) = (a.boundaries, a.ledger);
         Ok(())
     }
 
@@ -384,7 +393,7 @@ impl<'a> Reach<'a> {
         })
     }
 
-    /// Writes the settled record as a sheet at the start of `out`, and tells the sheet's length; bytes behind it keep their values.
+    /// Writes the record as a sheet at the start of `out`, and tells the sheet's length; bytes behind it keep their values. Transport first.
     pub fn write(&self, out: &mut [u8]) -> Result<usize, Refusal> {
         let a = call!(
             jemmyfern_write,

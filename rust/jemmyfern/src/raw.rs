@@ -4,14 +4,14 @@ use crate::{Boundary, Ledger};
 
 #[repr(C)]
 #[derive(Clone, Copy)]
-pub struct Ends {
-    pub ends: [Boundary; 2],
+pub struct Boundaries {
+    pub boundaries: [Boundary; 2],
 }
 
 #[repr(C)]
 pub struct Answer {
     pub refusal: u32,
-    pub ends: [Boundary; 2],
+    pub boundaries: [Boundary; 2],
     pub ledger: Ledger,
 }
 
@@ -19,22 +19,22 @@ pub struct Answer {
 pub struct Opened {
     pub refusal: u32,
     pub cell_length: u64,
-    pub ends: [Boundary; 2],
+    pub boundaries: [Boundary; 2],
     pub ledger: Ledger,
 }
 
 #[repr(C)]
 pub struct Stepped {
     pub refusal: u32,
-    pub ends: [Boundary; 2],
+    pub boundaries: [Boundary; 2],
     pub ledger: Ledger,
-    pub settled: bool,
+    pub transported: bool,
 }
 
 #[repr(C)]
 pub struct Greatest {
     pub refusal: u32,
-    pub ends: [Boundary; 2],
+    pub boundaries: [Boundary; 2],
     pub ledger: Ledger,
     pub time: u64,
     pub place: usize,
@@ -71,7 +71,7 @@ extern "C" {
         carried: *mut i64,
         carried_length: usize,
         cell_length: u64,
-        held: Ends,
+        boundaries: Boundaries,
         ledger: Ledger,
         t: u64,
     ) -> Stepped;
@@ -89,7 +89,7 @@ extern "C" {
         carried: *mut i64,
         carried_length: usize,
         cell_length: u64,
-        held: Ends,
+        boundaries: Boundaries,
         ledger: Ledger,
     ) -> Answer;
     pub fn jemmyfern_set_boundaries(
@@ -106,9 +106,9 @@ extern "C" {
         carried: *mut i64,
         carried_length: usize,
         cell_length: u64,
-        held: Ends,
+        boundaries: Boundaries,
         ledger: Ledger,
-        new: Ends,
+        new: Boundaries,
     ) -> Answer;
     pub fn jemmyfern_greatest_step(
         bed: *const i64,
@@ -124,7 +124,7 @@ extern "C" {
         carried: *const i64,
         carried_length: usize,
         cell_length: u64,
-        held: Ends,
+        boundaries: Boundaries,
         ledger: Ledger,
     ) -> Greatest;
     pub fn jemmyfern_write(
@@ -141,7 +141,7 @@ extern "C" {
         carried: *const i64,
         carried_length: usize,
         cell_length: u64,
-        held: Ends,
+        boundaries: Boundaries,
         ledger: Ledger,
         out: *mut u8,
         out_length: usize,

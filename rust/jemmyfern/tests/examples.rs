@@ -9,50 +9,54 @@ use std::process::Command;
 
 const HOUR_MS: u32 = 3_600_000;
 
-/// The hour of examples/controller.c on the second implementation: the text and the sheet.
+/// The hour of examples/controller.c on the second implementation, which has the paper's words: the text and the sheet.
 fn expected(sheet: &[u8], cells: usize) -> (String, Vec<u8>) {
     let mut c = Columns::of_cells(cells);
     let opened = reference::open(sheet, &mut c);
     assert_eq!(opened.refusal, 0);
-    let (x, mut ends, mut book) = (opened.x, opened.ends, opened.book);
+    let (x, mut boundaries, mut ledger) = (opened.x, opened.ends, opened.book);
     let mut doses = [(HOUR_MS / 3, 40_000), (HOUR_MS / 3 * 2, 500)].iter();
     let mut dose = doses.next();
-    let (mut elapsed, mut steps, mut settlings) = (0, 0, 0);
+    let (mut elapsed, mut steps, mut transports) = (0, 0, 0);
     while elapsed < HOUR_MS {
         if let Some(&(from, concentration)) = dose.filter(|(from, _)| elapsed >= *from) {
             assert!(elapsed >= from);
             let head = End {
                 concentration,
-                ..ends[0]
+                ..boundaries[0]
             };
-            let a = reference::set_ends(&mut c, x, ends, book, [head, ends[1]]);
+            let new = [head, boundaries[1]];
+            let a = reference::set_ends(&mut c, x, boundaries, ledger, new);
             assert_eq!(a.refusal, 0);
-            (ends, book) = (a.ends, a.book);
-            settlings += 1;
+            (boundaries, ledger) = (a.ends, a.book);
+            transports += 1;
             dose = doses.next();
         }
-        let most = reference::greatest_step(&c, x, ends, book).t;
+        let most = reference::greatest_step(&c, x, boundaries, ledger).t;
         let t = most.min(HOUR_MS - elapsed);
-        let a = reference::step(&mut c, x, ends, book, t);
+        let a = reference::step(&mut c, x, boundaries, ledger, t);
         assert_eq!(a.refusal, 0);
-        book = a.book;
-        settlings += u32::from(a.settled);
+        ledger = a.book;
+        transports += u32::from(a.settled);
         elapsed += t;
         steps += 1;
     }
-    let a = reference::settle(&mut c, x, ends, book);
+    let a = reference::settle(&mut c, x, boundaries, ledger);
     assert_eq!(a.refusal, 0);
-    book = a.book;
+    ledger = a.book;
     let mut out = vec![0; reference::sheet::sheet_length(cells)];
-    assert_eq!(reference::write(&c, x, ends, book, &mut out).refusal, 0);
+    assert_eq!(
+        reference::write(&c, x, boundaries, ledger, &mut out).refusal,
+        0
+    );
     let mut text = format!(
         "cells {cells} of {x} mm\nsteps {steps} settlings {}\n",
-        settlings + 1
+        transports + 1
     );
-    for (end, t) in [("left", book.left), ("right", book.right)] {
+    for (side, t) in [("left", ledger.left), ("right", ledger.right)] {
         writeln!(
             text,
-            "{end} water in {} out {} nutrient in {} out {}",
+            "{side} water in {} out {} nutrient in {} out {}",
             t.water_in, t.water_out, t.nutrient_in, t.nutrient_out
         )
         .unwrap();

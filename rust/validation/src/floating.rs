@@ -32,7 +32,7 @@ pub struct Unrounded {
 }
 
 /// Water and discharge that cross an interface rightwards in a step.
-type Crossing = (f64, f64);
+type Flux = (f64, f64);
 
 struct Reach {
     gravity: f64,
@@ -112,7 +112,7 @@ impl Reach {
     }
 
     /// What a cell sends over its right side, or over its left one if `sign` is -1.
-    fn sent(&self, cell: usize, sign: f64, step: f64) -> Crossing {
+    fn sent(&self, cell: usize, sign: f64, step: f64) -> Flux {
         let (u, a) = (sign * self.velocity(cell), self.wave_speed(cell));
         let (fast, slow) = ((u + a).max(0.0), (u - a).max(0.0));
         let share = self.h[cell] * step / self.cell_length;
@@ -122,9 +122,9 @@ impl Reach {
         )
     }
 
-    fn crossings(&self, step: f64) -> Vec<Crossing> {
+    fn fluxes(&self, step: f64) -> Vec<Flux> {
         let last = self.h.len() - 1;
-        // a wall mirrors its cell: no water passes, and the cell's own push comes back
+        // a wall mirrors its cell: no water passes, and the cell's own momentum comes back
         let mut all = vec![(0.0, 2.0 * self.sent(0, -1.0, step).1)];
         for cell in 0..last {
             let (l, r) = (self.sent(cell, 1.0, step), self.sent(cell + 1, -1.0, step));
@@ -136,8 +136,8 @@ impl Reach {
 
     /// A water step. If the pollutant has to move first, it answers the greatest outflow over the depth that it is held against.
     fn step(&mut self, step: f64, against: Against) -> Option<f64> {
-        let crossings = self.crossings(step);
-        let both = self.carried.iter().zip(&crossings);
+        let fluxes = self.fluxes(step);
+        let both = self.carried.iter().zip(&fluxes);
         let sums: Vec<f64> = both.map(|(c, n)| c + n.0).collect();
         let held = match against {
             Against::Base => &self.base,
@@ -149,13 +149,13 @@ impl Reach {
         let must_move = greatest > 1.0;
         if must_move {
             self.transport();
-            self.carried = crossings.iter().map(|n| n.0).collect();
+            self.carried = fluxes.iter().map(|n| n.0).collect();
         } else {
             self.carried = sums;
         }
         for cell in 0..self.h.len() {
-            self.h[cell] += crossings[cell].0 - crossings[cell + 1].0;
-            self.q[cell] += crossings[cell].1 - crossings[cell + 1].1;
+            self.h[cell] += fluxes[cell].0 - fluxes[cell + 1].0;
+            self.q[cell] += fluxes[cell].1 - fluxes[cell + 1].1;
         }
         must_move.then_some(greatest)
     }

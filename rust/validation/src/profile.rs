@@ -58,9 +58,8 @@ impl Profile {
     /// L1 error of the concentration over the jump at the dam, in m: so much of the reach has the concentration of the other side.
     pub fn concentration_error(&self, case: &Case, exact: &DamBreak) -> f64 {
         let t = case.seconds();
-        let carried = |x: f64| case.concentration_before(exact.origin(x, t));
-        distance(case, &self.concentration, carried)
-            / (cases::reports(LEFT) - cases::reports(RIGHT))
+        let there = |x: f64| case.concentration_before(exact.origin(x, t));
+        distance(case, &self.concentration, there) / (cases::reports(LEFT) - cases::reports(RIGHT))
     }
 }
 

@@ -31,7 +31,7 @@ pub const UPWIND: Way = Way {
     cut_last: true,
 };
 
-/// A run that came to its end time, settled.
+/// A run that came to its end time, all mass transported.
 #[derive(Clone, Debug)]
 pub struct Outcome {
     pub start: Record,
@@ -86,7 +86,7 @@ pub fn run(case: &Case, way: Way) -> Result<Outcome, Refusal> {
         time += outcome.step(most, way.transport)?;
     }
     if way.transport == Transport::WhenNeeded {
-        outcome.end.with(|reach| reach.settle())?;
+        outcome.end.with(|reach| reach.transport())?;
         outcome.transport += 1;
     }
     Ok(outcome)
@@ -95,16 +95,16 @@ pub fn run(case: &Case, way: Way) -> Result<Outcome, Refusal> {
 impl Outcome {
     /// One water step, the greatest that takes at most so many ms; answers its length.
     fn step(&mut self, most: u64, transport: Transport) -> Result<u64, Refusal> {
-        let (time, settled) = self.end.with(|reach| {
+        let (time, transported) = self.end.with(|reach| {
             let time = reach.greatest_step()?.time.min(most);
             let stepped = reach.step(time)?;
             if transport == Transport::EachStep {
-                reach.settle()?;
+                reach.transport()?;
             }
-            Ok((time, stepped.settled))
+            Ok((time, stepped.transported))
         })?;
         self.hydrodynamic += 1;
-        self.transport += u32::from(settled || transport == Transport::EachStep);
+        self.transport += u32::from(transported || transport == Transport::EachStep);
         Ok(time)
     }
 }

@@ -130,7 +130,7 @@ fn a_finer_mesh_comes_closer() {
 }
 
 #[test]
-fn both_schemes_give_the_right_speed_and_two_steps_are_sharper() {
+fn both_schemes_give_the_right_velocity_and_two_steps_are_sharper() {
     for row in TABLE_1 {
         let case = cases::dam_break(MESH, row.right_depth);
         let exact = cases::exact(row.right_depth);
@@ -238,12 +238,12 @@ fn the_case_of_eight_tenths_stands_on_an_edge() {
     let (mut left, mut fullest) = (case.end_time, 0f64);
     while left > 0 {
         let before = record.clone();
-        let (time, settled) = record.with(|reach| {
+        let (time, transported) = record.with(|reach| {
             let time = reach.greatest_step().expect("sound").time.min(left);
-            (time, reach.step(time).expect("allowed").settled)
+            (time, reach.step(time).expect("allowed").transported)
         });
         left -= time;
-        for cell in (0..before.cells()).filter(|_| settled) {
+        for cell in (0..before.cells()).filter(|_| transported) {
             let (l, r) = (before.carried[cell], before.carried[cell + 1]);
             fullest = fullest.max((r.max(0) - l.min(0)) as f64 / before.base[cell] as f64);
         }

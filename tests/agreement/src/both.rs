@@ -1,4 +1,4 @@
-//! A call made on both implementations, and the records to make it on: sound, with a full book, and broken in each way.
+//! A call made on both implementations, and the records to make it on: sound, with a full ledger, and broken in each way.
 
 use crate::calls;
 use reference::random::{damage_record, Random, Record};
@@ -8,8 +8,8 @@ use reference::{GreatestAnswer, OpenAnswer, StepAnswer};
 /// A call on a record with its free arguments.
 #[derive(Clone, Copy, Debug)]
 pub enum Call {
-    Settle,
-    SetEnds([End; 2]),
+    Transport,
+    SetBoundaries([End; 2]),
     Greatest,
     Step(u64),
 }
@@ -18,10 +18,10 @@ pub enum Call {
 #[derive(Clone, Copy, Debug, PartialEq, Eq, Default)]
 pub struct Outcome {
     pub refusal: u32,
-    pub ends: [End; 2],
-    pub book: Book,
-    /// the step settled first
-    pub settled: bool,
+    pub boundaries: [End; 2],
+    pub ledger: Book,
+    /// a transport came before the step
+    pub transported: bool,
     /// the greatest step and its place
     pub greatest: [u32; 2],
 }
@@ -30,8 +30,8 @@ impl From<Answer> for Outcome {
     fn from(a: Answer) -> Outcome {
         Outcome {
             refusal: a.refusal,
-            ends: a.ends,
-            book: a.book,
+            boundaries: a.ends,
+            ledger: a.book,
             ..Outcome::default()
         }
     }
@@ -41,8 +41,8 @@ impl From<GreatestAnswer> for Outcome {
     fn from(a: GreatestAnswer) -> Outcome {
         Outcome {
             refusal: a.refusal,
-            ends: a.ends,
-            book: a.book,
+            boundaries: a.ends,
+            ledger: a.book,
             greatest: [a.t, a.place],
             ..Outcome::default()
         }
@@ -53,9 +53,9 @@ impl From<StepAnswer> for Outcome {
     fn from(a: StepAnswer) -> Outcome {
         Outcome {
             refusal: a.refusal,
-            ends: a.ends,
-            book: a.book,
-            settled: a.settled,
+            boundaries: a.ends,
+            ledger: a.book,
+            transported: a.settled,
             ..Outcome::default()
         }
     }
@@ -64,8 +64,8 @@ impl From<StepAnswer> for Outcome {
 impl Call {
     pub fn name(self) -> &'static str {
         match self {
-            Call::Settle => "settling",
-            Call::SetEnds(_) => "end setting",
+            Call::Transport => "transport",
+            Call::SetBoundaries(_) => "setting of boundaries",
             Call::Greatest => "greatest step",
             Call::Step(_) => "step",
         }
@@ -74,8 +74,8 @@ impl Call {
     /// The call on the proved library, with the columns lent.
     pub fn ours(self, r: &mut Record) -> Outcome {
         match self {
-            Call::Settle => calls::settle(r).into(),
-            Call::SetEnds(new) => calls::set_ends(r, new).into(),
+            Call::Transport => calls::transport(r).into(),
+            Call::SetBoundaries(new) => calls::set_boundaries(r, new).into(),
             Call::Greatest => calls::greatest_step(r).into(),
             Call::Step(t) => calls::step(r, t).into(),
         }
@@ -85,8 +85,8 @@ impl Call {
     pub fn theirs(self, r: &mut Record) -> Outcome {
         let (c, x, ends, book) = (&mut r.columns, r.x, r.ends, r.book);
         match self {
-            Call::Settle => reference::settle(c, x, ends, book).into(),
-            Call::SetEnds(new) => reference::set_ends(c, x, ends, book, new).into(),
+            Call::Transport => reference::settle(c, x, ends, book).into(),
+            Call::SetBoundaries(new) => reference::set_ends(c, x, ends, book, new).into(),
             Call::Greatest => reference::greatest_step(c, x, ends, book).into(),
             Call::Step(t) => {
                 reference::step(c, x, ends, book, t.try_into().unwrap_or(1_001)).into()
@@ -96,7 +96,7 @@ impl Call {
 }
 
 /// Makes the call on both implementations: the answers and every column are the same, and a refused call leaves the record as
-/// it came. The record then holds the ends and the book handed back.
+/// it came. The record then holds the boundaries and the ledger handed back.
 pub fn same(call: Call, record: &mut Record) -> Outcome {
     let before = record.clone();
     let mut theirs = record.clone();
@@ -104,8 +104,8 @@ pub fn same(call: Call, record: &mut Record) -> Outcome {
     let expected = call.theirs(&mut theirs);
     assert_eq!(answer, expected, "{call:?} on {before:?}");
     assert_eq!(*record, theirs, "{call:?} on {before:?}");
-    record.ends = answer.ends;
-    record.book = answer.book;
+    record.ends = answer.boundaries;
+    record.book = answer.ledger;
     if answer.refusal != 0 {
         assert_eq!(*record, before, "a refused {call:?} changed the record");
     }
@@ -151,8 +151,8 @@ pub const WALL: End = End {
     discharge: 0,
 };
 
-/// A settled record with an empty book; a cell is its bed level, depth, discharge and nutrient.
-pub fn settled(x: u32, ends: [End; 2], cells: &[(i64, u64, i64, u64)]) -> Record {
+/// A record as an opening makes it, with nothing carried and an empty ledger; a cell is its bed level, depth, discharge and mass.
+pub fn fresh(x: u32, boundaries: [End; 2], cells: &[(i64, u64, i64, u64)]) -> Record {
     let mut columns = Columns::of_cells(cells.len());
     for (i, &(z, h, q, m)) in cells.iter().enumerate() {
         columns.bed[i] = z;
@@ -164,7 +164,7 @@ pub fn settled(x: u32, ends: [End; 2], cells: &[(i64, u64, i64, u64)]) -> Record
     Record {
         columns,
         x,
-        ends,
+        ends: boundaries,
         book: Book::default(),
     }
 }
@@ -172,7 +172,7 @@ pub fn settled(x: u32, ends: [End; 2], cells: &[(i64, u64, i64, u64)]) -> Record
 /// Document 01: two cells between walls, flat bed, X 1,000, depths 1,000,000 and 100,000 at rest.
 pub fn two_cells() -> Record {
     let cells = [(0, 1_000_000, 0, 3_000_000), (0, 100_000, 0, 0)];
-    settled(1_000, [WALL; 2], &cells)
+    fresh(1_000, [WALL; 2], &cells)
 }
 
 /// Raises most cells to or nearly to the greatest depth, the base depth with it; the carried water stays.
@@ -198,7 +198,7 @@ pub fn greatest(record: &Record) -> u64 {
 }
 
 /// Every total at its limit: whatever a call adds is ground 13.
-pub fn fill_book(record: &mut Record) {
+pub fn fill_ledger(record: &mut Record) {
     for side in [&mut record.book.left, &mut record.book.right] {
         side.water_in = MOST_TOTAL;
         side.water_out = MOST_TOTAL;
@@ -230,7 +230,7 @@ pub fn broken(r: &mut Random, record: &Record) -> Vec<Broken> {
         let later = 4 + r.below(10) as u32;
         let mut twice = record.clone();
         match later {
-            10.. => fill_book(&mut twice),
+            10.. => fill_ledger(&mut twice),
             later if later > ground => damage_record(r, &mut twice, later),
             _ => continue,
         }

@@ -1,4 +1,7 @@
 //! The calls on a record, opening, the program and the driver, in the types of the second implementation. They require nothing.
+//!
+//! The second implementation keeps the paper's words: its `End` is a boundary, its `Book` a ledger, its nutrient is mass, and where it settles
+//! the product transports. What these tests name themselves has the product's words.
 
 use reference::random::Record;
 use reference::record::{Answer, Book, Columns, End, Totals};
@@ -16,8 +19,8 @@ struct Boundary {
 
 #[repr(C)]
 #[derive(Clone, Copy)]
-struct Pair {
-    ends: [Boundary; 2],
+struct Boundaries {
+    boundaries: [Boundary; 2],
 }
 
 #[repr(C)]
@@ -39,14 +42,14 @@ struct Ledger {
 #[repr(C)]
 struct RawAnswer {
     refusal: u32,
-    ends: [Boundary; 2],
+    boundaries: [Boundary; 2],
     ledger: Ledger,
 }
 
 #[repr(C)]
 struct RawGreatest {
     refusal: u32,
-    ends: [Boundary; 2],
+    boundaries: [Boundary; 2],
     ledger: Ledger,
     time: u64,
     place: usize,
@@ -55,16 +58,16 @@ struct RawGreatest {
 #[repr(C)]
 struct RawStepped {
     refusal: u32,
-    ends: [Boundary; 2],
+    boundaries: [Boundary; 2],
     ledger: Ledger,
-    settled: bool,
+    transported: bool,
 }
 
 #[repr(C)]
 struct RawOpened {
     refusal: u32,
     cell_length: u64,
-    ends: [Boundary; 2],
+    boundaries: [Boundary; 2],
     ledger: Ledger,
 }
 
@@ -84,7 +87,7 @@ extern "C" {
         c: *mut i64,
         cn: usize,
         x: u64,
-        held: Pair,
+        held: Boundaries,
         ledger: Ledger,
     ) -> RawAnswer;
     fn jemmyfern_set_boundaries(
@@ -101,9 +104,9 @@ extern "C" {
         c: *mut i64,
         cn: usize,
         x: u64,
-        held: Pair,
+        held: Boundaries,
         ledger: Ledger,
-        new: Pair,
+        new: Boundaries,
     ) -> RawAnswer;
     fn jemmyfern_greatest_step(
         z: *const i64,
@@ -119,7 +122,7 @@ extern "C" {
         c: *const i64,
         cn: usize,
         x: u64,
-        held: Pair,
+        held: Boundaries,
         ledger: Ledger,
     ) -> RawGreatest;
     fn jemmyfern_step(
@@ -136,7 +139,7 @@ extern "C" {
         c: *mut i64,
         cn: usize,
         x: u64,
-        held: Pair,
+        held: Boundaries,
         ledger: Ledger,
         t: u64,
     ) -> RawStepped;
@@ -154,7 +157,7 @@ extern "C" {
         c: *const i64,
         cn: usize,
         x: u64,
-        held: Pair,
+        held: Boundaries,
         ledger: Ledger,
         out: *mut u8,
         outn: usize,
@@ -212,12 +215,12 @@ fn boundary(e: End) -> Boundary {
     }
 }
 
-/// Every end that these tests hand in fits 32 bits, and a call hands back one of those.
+/// Every boundary that these tests hand in fits 32 bits, and a call hands back one of those.
 fn end(b: Boundary) -> End {
     End {
         kind: b.kind,
-        depth: b.depth.try_into().expect("an end as it came"),
-        concentration: b.concentration.try_into().expect("an end as it came"),
+        depth: b.depth.try_into().expect("a boundary as it came"),
+        concentration: b.concentration.try_into().expect("a boundary as it came"),
         zero: b.reserved,
         discharge: b.discharge,
     }
@@ -258,19 +261,19 @@ fn book(k: Ledger) -> Book {
 fn answer(r: RawAnswer) -> Answer {
     Answer {
         refusal: r.refusal,
-        ends: r.ends.map(end),
+        ends: r.boundaries.map(end),
         book: book(r.ledger),
     }
 }
 
-fn pair(ends: [End; 2]) -> Pair {
-    Pair {
-        ends: ends.map(boundary),
+fn boundaries(ends: [End; 2]) -> Boundaries {
+    Boundaries {
+        boundaries: ends.map(boundary),
     }
 }
 
-/// Calls `$function` with the record's columns, X, ends and book, and whatever follows. `$water` lends depth and discharge,
-/// `$slice` nutrient, base depth and carried water; nothing writes the bed level.
+/// Calls `$function` with the record's columns, X, boundaries and ledger, and whatever follows. `$water` lends depth and discharge,
+/// `$slice` mass, base depth and carried water; nothing writes the bed level.
 macro_rules! call {
     ($function:ident, $record:expr, $water:ident, $slice:ident $(, $more:expr)*) => {{
         let Record { columns, x, ends, book } = $record;
@@ -283,25 +286,31 @@ macro_rules! call {
                 nutrient.$slice(), nutrient.len(),
                 base.$slice(), base.len(),
                 carried.$slice(), carried.len(),
-                (*x).into(), pair(*ends), ledger(*book) $(, $more)*
+                (*x).into(), boundaries(*ends), ledger(*book) $(, $more)*
             )
         }
     }};
 }
 
-pub fn settle(r: &mut Record) -> Answer {
+pub fn transport(r: &mut Record) -> Answer {
     answer(call!(jemmyfern_transport, r, as_ptr, as_mut_ptr))
 }
 
-pub fn set_ends(r: &mut Record, new: [End; 2]) -> Answer {
-    answer(call!(jemmyfern_set_boundaries, r, as_ptr, as_mut_ptr, pair(new)))
+pub fn set_boundaries(r: &mut Record, new: [End; 2]) -> Answer {
+    answer(call!(
+        jemmyfern_set_boundaries,
+        r,
+        as_ptr,
+        as_mut_ptr,
+        boundaries(new)
+    ))
 }
 
 pub fn greatest_step(r: &Record) -> GreatestAnswer {
     let g = call!(jemmyfern_greatest_step, r, as_ptr, as_ptr);
     GreatestAnswer {
         refusal: g.refusal,
-        ends: g.ends.map(end),
+        ends: g.boundaries.map(end),
         book: book(g.ledger),
         t: g.time.try_into().expect("a time step"),
         place: g.place.try_into().expect("a place"),
@@ -312,13 +321,13 @@ pub fn step(r: &mut Record, t: u64) -> StepAnswer {
     let s = call!(jemmyfern_step, r, as_mut_ptr, as_mut_ptr, t);
     StepAnswer {
         refusal: s.refusal,
-        ends: s.ends.map(end),
+        ends: s.boundaries.map(end),
         book: book(s.ledger),
-        settled: s.settled,
+        settled: s.transported,
     }
 }
 
-/// Writes the sheet of a settled record at the start of `out`.
+/// Writes the sheet of a record at the start of `out`. Transport first.
 pub fn write(r: &Record, out: &mut [u8]) -> WriteAnswer {
     let w = call!(
         jemmyfern_write,
@@ -330,7 +339,7 @@ pub fn write(r: &Record, out: &mut [u8]) -> WriteAnswer {
     );
     WriteAnswer {
         refusal: w.refusal,
-        ends: w.ends.map(end),
+        ends: w.boundaries.map(end),
         book: book(w.ledger),
     }
 }
@@ -358,7 +367,7 @@ fn opened(o: RawOpened) -> OpenAnswer {
     OpenAnswer {
         refusal: o.refusal,
         x: o.cell_length.try_into().expect("a cell length"),
-        ends: o.ends.map(end),
+        ends: o.boundaries.map(end),
         book: book(o.ledger),
     }
 }
@@ -373,8 +382,8 @@ pub fn open(sheet: &[u8], columns: &mut Columns) -> OpenAnswer {
     ))
 }
 
-/// Opens the first sheet and plays the calls of the words. The answer is the first opening's number, and X, ends and book as the last call
-/// left them.
+/// Opens the first sheet and plays the calls of the words. The answer is the first opening's number, and X, boundaries and ledger as the last
+/// call left them.
 pub fn replay(
     sheet: &[u8],
     words: &[u64],

@@ -13,9 +13,9 @@ const LENGTH: usize = 4;
 const CELLS: usize = 8;
 const CELL_LENGTH: usize = 12;
 const OFFSETS: usize = 16;
-const ENDS: usize = 32;
-const PER_END: usize = 24;
-/// Bytes of an entry: bed level, depth, discharge, nutrient.
+const BOUNDARIES: usize = 32;
+const PER_BOUNDARY: usize = 24;
+/// Bytes of an entry: bed level, depth, discharge, mass.
 const SIZES: [usize; 4] = [4, 4, 8, 8];
 
 /// A sheet and the columns lent for it.
@@ -65,7 +65,7 @@ pub fn lent(n: usize) -> Columns {
 }
 
 impl Opening {
-    /// The sheet of a settled record, its columns in this order.
+    /// The sheet of a record with nothing carried, its columns in this order.
     pub fn of(record: Record, order: [usize; 4]) -> Opening {
         Opening {
             sheet: sheet_of(&record, order),
@@ -150,7 +150,7 @@ pub fn damages(r: &mut Random, opening: &Opening) -> Vec<Damage> {
         offsets(opening),
         lendings(opening),
         cell_lengths(),
-        ends(r),
+        boundaries(r),
         values(r, opening),
     ];
     let mut list = Vec::new();
@@ -302,24 +302,26 @@ fn cell_lengths() -> Vec<Vec<Change>> {
         .to_vec()
 }
 
-/// Ground 6: each bad end on either side.
-fn ends(r: &mut Random) -> Vec<Vec<Change>> {
-    let bad: Vec<End> = [WALL, OPEN, FED].map(|kind| bad_ends(r, kind)).concat();
-    let left = bad.iter().map(|end| put_end(0, end));
-    let right = bad.iter().map(|end| put_end(1, end));
+/// Ground 6: each bad boundary on either side.
+fn boundaries(r: &mut Random) -> Vec<Vec<Change>> {
+    let bad: Vec<End> = [WALL, OPEN, FED]
+        .map(|kind| bad_boundaries(r, kind))
+        .concat();
+    let left = bad.iter().map(|boundary| put_boundary(0, boundary));
+    let right = bad.iter().map(|boundary| put_boundary(1, boundary));
     left.chain(right).collect()
 }
 
-fn put_end(side: usize, end: &End) -> Vec<Change> {
-    let at = ENDS + PER_END * side;
+fn put_boundary(side: usize, b: &End) -> Vec<Change> {
+    let at = BOUNDARIES + PER_BOUNDARY * side;
     vec![
-        words(at, &[end.kind, end.depth, end.concentration, end.zero]),
-        long(at + 16, end.discharge as u64),
+        words(at, &[b.kind, b.depth, b.concentration, b.zero]),
+        long(at + 16, b.discharge as u64),
     ]
 }
 
-/// Ends of a kind with one value past its limit.
-fn bad_ends(r: &mut Random, kind: u32) -> Vec<End> {
+/// Boundaries of a kind with one value past its limit.
+fn bad_boundaries(r: &mut Random, kind: u32) -> Vec<End> {
     let sound = end_of_kind(r, kind);
     let mut list = Vec::new();
     list.extend([1, 1 << 31].map(|zero| End { zero, ..sound }));
@@ -340,14 +342,14 @@ fn bad_ends(r: &mut Random, kind: u32) -> Vec<End> {
     list
 }
 
-/// A wall or an open end with a depth or a discharge.
+/// A wall or an open boundary with a depth or a discharge.
 fn bad_stills(sound: End) -> Vec<End> {
     let depths = [1, DEEPEST as u32, 1 << 24].map(|depth| End { depth, ..sound });
     let discharges = [1, -1, 1 << 32, i64::MIN].map(|discharge| End { discharge, ..sound });
     [depths.to_vec(), discharges.to_vec()].concat()
 }
 
-/// A fed end too shallow, too deep or too fast.
+/// A fed boundary too shallow, too deep or too fast.
 fn bad_feeds(sound: End) -> Vec<End> {
     let mut list = Vec::new();
     list.extend([0, DEEPEST as u32 + 1, 1 << 31, u32::MAX].map(|depth| End {
@@ -393,8 +395,8 @@ fn bad_cell(opening: &Opening, cell: usize) -> Vec<Vec<Change>> {
     for discharge in [over, -over, i64::MAX, i64::MIN] {
         list.push(vec![long(place(2), discharge as u64)]);
     }
-    for nutrient in [RICHEST * depth + 1, 1 << 63, u64::MAX] {
-        list.push(vec![long(place(3), nutrient)]);
+    for mass in [RICHEST * depth + 1, 1 << 63, u64::MAX] {
+        list.push(vec![long(place(3), mass)]);
     }
     list
 }

@@ -1,5 +1,5 @@
-//! Whole lists through the driver against the second implementation, played call by call: every column, X, ends, book, the output and every
-//! answer. About a third of the calls are refused, openings in between among them.
+//! Whole lists through the driver against the second implementation, played call by call: every column, X, boundaries, ledger, the output and
+//! every answer. About a third of the calls are refused, openings in between among them.
 
 use agreement::calls;
 use agreement::sheets::{damages, lent, Opening};
@@ -12,8 +12,8 @@ use std::collections::BTreeMap;
 #[derive(Clone, Debug)]
 enum Call {
     Step(u64),
-    Settle,
-    SetEnds([End; 2]),
+    Transport,
+    SetBoundaries([End; 2]),
     Greatest,
     Write(usize),
     Open(Vec<u8>),
@@ -26,7 +26,7 @@ struct Script {
     sheets: Vec<u8>,
 }
 
-fn end_words(e: &End) -> [u64; 5] {
+fn boundary_words(e: &End) -> [u64; 5] {
     [
         e.kind.into(),
         e.zero.into(),
@@ -41,11 +41,11 @@ impl Script {
         let mut words = [0; 13];
         match call {
             Call::Step(t) => words[1] = *t,
-            Call::Settle => words[0] = 1,
-            Call::SetEnds(ends) => {
+            Call::Transport => words[0] = 1,
+            Call::SetBoundaries(new) => {
                 words[0] = 2;
-                words[3..8].copy_from_slice(&end_words(&ends[0]));
-                words[8..].copy_from_slice(&end_words(&ends[1]));
+                words[3..8].copy_from_slice(&boundary_words(&new[0]));
+                words[8..].copy_from_slice(&boundary_words(&new[1]));
             }
             Call::Greatest => words[0] = 3,
             Call::Write(room) => {
@@ -63,7 +63,7 @@ impl Script {
     }
 }
 
-/// What a call answers: its number, whether the step settled, the greatest step and its place.
+/// What a call answers: its number, whether a transport came before the step, the greatest step and its place.
 type Answer = [u64; 4];
 
 /// A record, an output and the second implementation's calls on them.
@@ -83,12 +83,12 @@ impl Theirs {
                 (r.ends, r.book) = (a.ends, a.book);
                 [a.refusal.into(), a.settled.into(), 0, 0]
             }
-            Call::Settle => {
+            Call::Transport => {
                 let a = reference::settle(c, x, ends, book);
                 (r.ends, r.book) = (a.ends, a.book);
                 [a.refusal.into(), 0, 0, 0]
             }
-            Call::SetEnds(new) => {
+            Call::SetBoundaries(new) => {
                 let a = reference::set_ends(c, x, ends, book, *new);
                 (r.ends, r.book) = (a.ends, a.book);
                 [a.refusal.into(), 0, 0, 0]
@@ -147,8 +147,8 @@ fn good(r: &mut Random, record: &Record, n: usize) -> Call {
     } = record;
     let most: u64 = reference::greatest_step(columns, *x, *ends, *book).t.into();
     match r.below(24) {
-        0 | 1 => Call::Settle,
-        2 | 3 => Call::SetEnds([end(r), end(r)]),
+        0 | 1 => Call::Transport,
+        2 | 3 => Call::SetBoundaries([end(r), end(r)]),
         4 | 5 => Call::Greatest,
         6 if r.one_in(8) => Call::Open(sheet(r, n).sheet),
         7 | 8 if columns.carried.iter().all(|&c| c == 0) => {
@@ -161,17 +161,17 @@ fn good(r: &mut Random, record: &Record, n: usize) -> Call {
 
 /// A call that is meant to be refused.
 fn bad(r: &mut Random, record: &Record, n: usize) -> Call {
-    let unsettled = record.columns.carried.iter().any(|&c| c != 0);
+    let carrying = record.columns.carried.iter().any(|&c| c != 0);
     match r.below(6) {
         0 => Call::Open(bad_sheet(r, n)),
         1 => {
             let mut new = [end(r), end(r)];
             let side = r.below(2) as usize;
             damage_end(r, &mut new[side]);
-            Call::SetEnds(new)
+            Call::SetBoundaries(new)
         }
         2 => Call::Write(r.below(sheet_length(n) as u64) as usize),
-        3 if unsettled => Call::Write(sheet_length(n)),
+        3 if carrying => Call::Write(sheet_length(n)),
         4 => Call::Step(1_000 - r.below(2)),
         _ => Call::Step(r.pick(&[0, 1_001, 1 << 32, u64::MAX])),
     }
@@ -192,8 +192,8 @@ type Seen = BTreeMap<(&'static str, u64), u64>;
 fn name(call: &Call) -> &'static str {
     match call {
         Call::Step(_) => "step",
-        Call::Settle => "settling",
-        Call::SetEnds(_) => "end setting",
+        Call::Transport => "transport",
+        Call::SetBoundaries(_) => "setting of boundaries",
         Call::Greatest => "greatest step",
         Call::Write(_) => "write",
         Call::Open(_) => "opening",
@@ -279,9 +279,9 @@ fn lists_through_the_driver_agree() {
         ("step", 10),
         ("step", 11),
         ("step", 12),
-        ("settling", 0),
-        ("end setting", 0),
-        ("end setting", 6),
+        ("transport", 0),
+        ("setting of boundaries", 0),
+        ("setting of boundaries", 6),
         ("greatest step", 0),
         ("write", 0),
         ("write", 14),

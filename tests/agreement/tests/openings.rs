@@ -1,7 +1,7 @@
 //! Opening against the second implementation, of sound and damaged sheets into columns that fit and that do not: the answer and
 //! all six columns, after refusals as well. Every damage has its own ground, and an opened record is what the sheet says.
 
-use agreement::both::{same, same_opening, settled, Call, WALL};
+use agreement::both::{fresh, same, same_opening, Call, WALL};
 use agreement::sheets::{damages, exchange, lent, several, turn_bits, Opening};
 use reference::random::{cell_count, sheet_of, Random, COLUMN_ORDERS};
 use reference::record::{BED_LIMIT, DEEPEST, FASTEST, FED, LEAST_X, MOST_CELLS, MOST_X, RICHEST};
@@ -141,22 +141,22 @@ fn values_at_their_limits_open() {
         (1, 1, -(FASTEST as i64), 1),
         (0, 0, 0, 0),
     ];
-    let fed = |depth: u64, speed: i64, concentration: u64| End {
+    let fed = |depth: u64, velocity: i64, concentration: u64| End {
         kind: FED,
         depth: depth as u32,
-        discharge: speed * depth as i64,
+        discharge: velocity * depth as i64,
         concentration: concentration as u32,
         ..WALL
     };
     let (right, left) = (FASTEST as i64, -(FASTEST as i64));
     for order in COLUMN_ORDERS {
-        for ends in [
+        for boundaries in [
             [fed(1, right, RICHEST), fed(DEEPEST, left, 0)],
             [fed(DEEPEST, right, 0), fed(1, left, RICHEST)],
             [WALL; 2],
         ] {
             for x in [LEAST_X, MOST_X] {
-                opens(&Opening::of(settled(x, ends, &cells), order));
+                opens(&Opening::of(fresh(x, boundaries, &cells), order));
             }
         }
     }
@@ -167,7 +167,7 @@ fn values_at_their_limits_open() {
 fn number_of_cells() {
     for (n, expected) in [(0, 2), (1, 0), (512, 0), (513, 2), (1_000, 2)] {
         let cells = vec![(-3, 1_000, 7, 9); n];
-        let sheet = sheet_of(&settled(1_000, [WALL; 2], &cells), COLUMN_ORDERS[0]);
+        let sheet = sheet_of(&fresh(1_000, [WALL; 2], &cells), COLUMN_ORDERS[0]);
         assert_eq!(sheet.len(), sheet_length(n));
         let opened = same_opening(&sheet, &lent(n));
         assert_eq!(opened.err().unwrap_or(0), expected, "{n} cells");

@@ -1,7 +1,7 @@
 //! The program against the second implementation: the same text for every input. Then the text of document 01 and the limits of its
 //! last part.
 
-use agreement::both::{brim, greatest, settled, two_cells, WALL};
+use agreement::both::{brim, fresh, greatest, two_cells, WALL};
 use agreement::calls;
 use agreement::sheets::{damages, several, turn_bits, Opening};
 use reference::random::{cell_count, sheet_of, Random, Record, COLUMN_ORDERS};
@@ -46,7 +46,7 @@ struct Seen {
     counts: BTreeSet<u32>,
     /// numbers of cells of accepted runs
     lengths: BTreeSet<usize>,
-    /// places of the book that were not 0
+    /// places of the ledger that were not 0
     totals: BTreeSet<usize>,
     marks: BTreeMap<&'static str, u64>,
 }
@@ -68,10 +68,10 @@ impl Seen {
 
     fn accepted(&mut self, text: &str, count: u32, t: u32) {
         let lines: Vec<Vec<&str>> = text.lines().map(|l| l.split(' ').collect()).collect();
-        let (book, cells) = lines.split_last().expect("a book");
+        let (ledger, cells) = lines.split_last().expect("a ledger");
         self.counts.insert(count);
         self.lengths.insert(cells.len() - 1);
-        self.totals.extend((1..=8).filter(|&k| book[k] != "0"));
+        self.totals.extend((1..=8).filter(|&k| ledger[k] != "0"));
         self.mark(
             "leftwards",
             cells[1..].iter().any(|l| l[2].starts_with('-')),
@@ -154,8 +154,8 @@ fn around(r: &mut Random, n: usize, seen: &mut Seen) {
 }
 
 /// At least 20,000 inputs, and everything that they must have come upon. The program lends the columns itself, so 4 is not among
-/// the numbers; nor is 13, since 1,000 steps add no more than 1,000 times 4,000,000 to a total of water and 1,001 settlings no more
-/// than 1,001 times 4,000,000 times 500,000 to one of nutrient.
+/// the numbers; nor is 13, since 1,000 steps add no more than 1,000 times 4,000,000 to a total of water and 1,001 transports no more
+/// than 1,001 times 4,000,000 times 500,000 to one of mass.
 #[test]
 fn programs_agree() {
     let mut r = Random::new(59);
@@ -190,7 +190,7 @@ fn a_thousand_steps_of_512_cells() {
         .map(|i| (i % 7 - 500_000, 500_000, 0, 11 * i as u64))
         .collect();
     cells[200].1 = 700_000;
-    let record = settled(1_000, [WALL; 2], &cells);
+    let record = fresh(1_000, [WALL; 2], &cells);
     let text = text(&input(&sheet(&record), 1_000, 100));
     assert!(text.starts_with("cells 512\n") && text.ends_with("\nbook 0 0 0 0 0 0 0 0\n"));
 }
@@ -224,7 +224,7 @@ fn greatest_values_are_printed() {
                     1 0 0 0\n\
                     2 4000000 32000000000 1\n\
                     book 0 0 0 0 0 0 0 0\n";
-    let record = settled(1_000, [WALL; 2], &cells);
+    let record = fresh(1_000, [WALL; 2], &cells);
     assert_eq!(text(&input(&sheet(&record), 0, 0)), expected);
 }
 
@@ -297,7 +297,7 @@ fn byte_limits_come_first() {
 #[test]
 fn longest_input() {
     for (n, expected) in [(512, 0), (513, 2)] {
-        let record = settled(1_000, [WALL; 2], &vec![(0, 1_000, 0, 1); n]);
+        let record = fresh(1_000, [WALL; 2], &vec![(0, 1_000, 0, 1); n]);
         let mut input = input(&sheet(&record), 1, 1);
         assert_eq!(input.len(), sheet_length(n) + 8);
         assert_eq!(number(&text(&input)), expected);

@@ -1,15 +1,15 @@
-//! Settling, end setting and the greatest step against the second implementation, on sound and damaged records: the answer, every
+//! Transport, setting of boundaries and the greatest step against the second implementation, on sound and damaged records: the answer, every
 //! column entry by entry, after refusals as well.
 
-use agreement::both::{broken, fill_book, same, Call};
+use agreement::both::{broken, fill_ledger, same, Call};
 use agreement::calls;
 use reference::random::{any_record, damage_end, damage_record, end, Random, Record};
 use reference::record::End;
 use std::collections::BTreeMap;
 
-/// The three calls, `new` being the pair of the end setting.
+/// The three calls, `new` being the boundaries to set.
 fn three(new: [End; 2]) -> [Call; 3] {
-    [Call::Settle, Call::SetEnds(new), Call::Greatest]
+    [Call::Transport, Call::SetBoundaries(new), Call::Greatest]
 }
 
 /// How often each call came out with each number, for records broken in one way or in several.
@@ -24,11 +24,11 @@ fn all_calls(r: &mut Random, record: &Record, several: bool, seen: &mut Seen) ->
     })
 }
 
-/// Sound, with a full book, broken in each way, and in each way with a later one.
+/// Sound, with a full ledger, broken in each way, and in each way with a later one.
 fn around(r: &mut Random, record: &Record, seen: &mut Seen) {
     all_calls(r, record, false, seen);
     let mut full = record.clone();
-    fill_book(&mut full);
+    fill_ledger(&mut full);
     all_calls(r, &full, false, seen);
     for b in broken(r, record) {
         let refusals = all_calls(r, &b.record, b.several, seen);
@@ -38,11 +38,14 @@ fn around(r: &mut Random, record: &Record, seen: &mut Seen) {
     let mut new = [end(r), end(r)];
     let side = r.below(2) as usize;
     damage_end(r, &mut new[side]);
-    assert_eq!(same(Call::SetEnds(new), &mut record.clone()).refusal, 6);
+    assert_eq!(
+        same(Call::SetBoundaries(new), &mut record.clone()).refusal,
+        6
+    );
     let mut later = record.clone();
     let ground = r.pick(&[7, 8, 9]);
     damage_record(r, &mut later, ground);
-    assert_eq!(same(Call::SetEnds(new), &mut later).refusal, 6);
+    assert_eq!(same(Call::SetBoundaries(new), &mut later).refusal, 6);
 }
 
 #[test]
@@ -67,25 +70,25 @@ fn calls_agree_on_sound_and_damaged_records() {
         }
         assert!(seen.contains_key(&(call, 0, false)), "{call} accepted");
     }
-    for call in ["settling", "end setting"] {
+    for call in ["transport", "setting of boundaries"] {
         assert!(seen.contains_key(&(call, 13, false)), "{call} 13");
     }
 }
 
-/// A settling after a settling finds nothing to move.
+/// A transport after a transport finds nothing to move.
 #[test]
-fn settling_twice_is_settling_once() {
+fn transporting_twice_is_transporting_once() {
     let mut r = Random::new(19);
     for _ in 0..5_000 {
         let mut record = any_record(&mut r);
-        let first = calls::settle(&mut record);
+        let first = calls::transport(&mut record);
         if first.refusal != 0 {
             continue;
         }
         record.book = first.book;
-        let settled = record.clone();
-        let second = calls::settle(&mut record);
+        let once = record.clone();
+        let second = calls::transport(&mut record);
         assert_eq!(second, first);
-        assert_eq!(record, settled);
+        assert_eq!(record, once);
     }
 }

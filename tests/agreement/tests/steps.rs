@@ -1,8 +1,8 @@
-//! The water step against the second implementation, alone and in long lists of calls: refusal, ends, book, whether it settled,
-//! and every column entry by entry. Then the figures of document 01, still water, and the balance of the book.
+//! The water step against the second implementation, alone and in long lists of calls: refusal, boundaries, ledger, whether a transport
+//! came first, and every column entry by entry. Then the figures of document 01, still water, and the balance of the ledger.
 
 use agreement::both::{
-    brim, broken, fill_book, greatest, same, settled, two_cells, Call, Outcome, WALL,
+    brim, broken, fill_ledger, fresh, greatest, same, two_cells, Call, Outcome, WALL,
 };
 use agreement::calls;
 use reference::flux::speed;
@@ -28,7 +28,7 @@ struct Seen {
     steps: u64,
     /// 0 for an accepted step
     grounds: BTreeMap<u32, u64>,
-    /// kinds of the ends and number of cells, of accepted steps
+    /// kinds of the boundaries and number of cells, of accepted steps
     kinds: BTreeSet<[u32; 2]>,
     lengths: BTreeSet<usize>,
     /// totals that ground 13 stopped, as `totals` counts them
@@ -38,7 +38,7 @@ struct Seen {
 }
 
 /// Things that an accepted step can show, most of them in some cell.
-fn marks(before: &Record, after: &Record, settled: bool) -> Vec<(&'static str, bool)> {
+fn marks(before: &Record, after: &Record, transported: bool) -> Vec<(&'static str, bool)> {
     let (old, new) = (&before.columns, &after.columns);
     let n = old.bed.len();
     let fastest = FASTEST as i64;
@@ -57,7 +57,7 @@ fn marks(before: &Record, after: &Record, settled: bool) -> Vec<(&'static str, b
         ("held right", &|i| moved(i) && new.discharge[i] == most(i)),
         ("held left", &|i| moved(i) && new.discharge[i] == -most(i)),
     ];
-    let mut shown = vec![("settled", settled), ("kept", !settled)];
+    let mut shown = vec![("transported", transported), ("kept", !transported)];
     shown.extend(cells.map(|(mark, shows)| (mark, (0..n).any(shows))));
     shown
 }
@@ -71,7 +71,7 @@ fn step(record: &Record, t: u64, seen: &mut Seen) -> Outcome {
     if answer.refusal == 0 {
         seen.kinds.insert(record.ends.map(|e| e.kind));
         seen.lengths.insert(record.columns.bed.len());
-        for (mark, shown) in marks(record, &after, answer.settled) {
+        for (mark, shown) in marks(record, &after, answer.transported) {
             *seen.marks.entry(mark).or_default() += u64::from(shown);
         }
         stays_wet(record, &after);
@@ -112,8 +112,8 @@ fn times(r: &mut Random, record: &Record) -> [u64; 11] {
 }
 
 /// The eight totals, left, then right.
-fn totals(book: &Book) -> [u64; 8] {
-    let [l, r] = [book.left, book.right];
+fn totals(ledger: &Book) -> [u64; 8] {
+    let [l, r] = [ledger.left, ledger.right];
     [
         l.water_in,
         l.water_out,
@@ -126,7 +126,7 @@ fn totals(book: &Book) -> [u64; 8] {
     ]
 }
 
-/// A book that the step fills to the last unit, then each total that it adds to with one unit less room.
+/// A ledger that the step fills to the last unit, then each total that it adds to with one unit less room.
 fn to_the_limit(record: &Record, t: u64, seen: &mut Seen) {
     let with = |totals: [u64; 8]| Record {
         book: book_from(totals),
@@ -136,11 +136,11 @@ fn to_the_limit(record: &Record, t: u64, seen: &mut Seen) {
     if answer.refusal != 0 {
         return;
     }
-    let gains = totals(&answer.book);
+    let gains = totals(&answer.ledger);
     let room = gains.map(|gain| MOST_TOTAL - gain);
     let filled = step(&with(room), t, seen);
     assert_eq!(filled.refusal, 0);
-    assert_eq!(totals(&filled.book), [MOST_TOTAL; 8]);
+    assert_eq!(totals(&filled.ledger), [MOST_TOTAL; 8]);
     for (k, _) in gains.iter().enumerate().filter(|(_, &gain)| gain > 0) {
         let mut over = room;
         over[k] += 1;
@@ -149,7 +149,7 @@ fn to_the_limit(record: &Record, t: u64, seen: &mut Seen) {
     }
 }
 
-/// A sound record, the same brimful, with a full book, and broken in each way.
+/// A sound record, the same brimful, with a full ledger, and broken in each way.
 fn around(r: &mut Random, record: &Record, seen: &mut Seen) {
     let times = times(r, record);
     for t in times {
@@ -157,7 +157,7 @@ fn around(r: &mut Random, record: &Record, seen: &mut Seen) {
     }
     to_the_limit(record, r.pick(&times[..5]), seen);
     let mut full = record.clone();
-    fill_book(&mut full);
+    fill_ledger(&mut full);
     step(&full, r.pick(&times), seen);
     let mut deep = record.clone();
     brim(r, &mut deep);
@@ -199,14 +199,14 @@ fn deep_and_fast(fast_first: bool) -> Record {
     let open = End { kind: OPEN, ..WALL };
     if fast_first {
         let cells = [fast(-8_000), deep(10), deep(0), deep(-10)];
-        settled(1_000, [open, WALL], &cells)
+        fresh(1_000, [open, WALL], &cells)
     } else {
         let cells = [deep(10), deep(0), deep(-10), fast(8_000)];
-        settled(1_000, [WALL, open], &cells)
+        fresh(1_000, [WALL, open], &cells)
     }
 }
 
-/// t out of range, a cell too fast, another one too deep and a full book: 10, 11, 12 and 13 come in this order.
+/// t out of range, a cell too fast, another one too deep and a full ledger: 10, 11, 12 and 13 come in this order.
 #[test]
 fn a_step_looks_at_its_grounds_in_order() {
     for fast_first in [true, false] {
@@ -214,7 +214,7 @@ fn a_step_looks_at_its_grounds_in_order() {
         let refusal = |record: &Record, t| same(Call::Step(t), &mut record.clone()).refusal;
         // |u|+a is 8,121 in the fast cell, and at most 7,680 in the others
         assert_eq!(greatest(&record), 123);
-        fill_book(&mut record);
+        fill_ledger(&mut record);
         assert_eq!([0, 1_001].map(|t| refusal(&record, t)), [10, 10]);
         assert_eq!([124, 130].map(|t| refusal(&record, t)), [11, 11]);
         assert_eq!(refusal(&record, 123), 12);
@@ -227,12 +227,12 @@ fn a_step_looks_at_its_grounds_in_order() {
     }
 }
 
-/// What the lists came upon: calls by name and refusal, steps by whether they settled, and the numbers of cells.
+/// What the lists came upon: calls by name and refusal, steps by whether a transport came first, and the numbers of cells.
 #[derive(Default)]
 struct Listed {
     lengths: BTreeSet<usize>,
     calls: BTreeMap<(&'static str, u32), u64>,
-    settled: BTreeMap<bool, u64>,
+    transported: BTreeMap<bool, u64>,
 }
 
 /// Mostly the greatest step; near it, beyond it, small ones and some out of range too.
@@ -251,20 +251,20 @@ fn time(r: &mut Random, most: u64) -> u64 {
 /// Any call, `most` being the greatest step of the record.
 fn any_call(r: &mut Random, most: u64) -> Call {
     match r.below(40) {
-        0..=2 => Call::Settle,
-        3 => Call::SetEnds([end(r), end(r)]),
+        0..=2 => Call::Transport,
+        3 => Call::SetBoundaries([end(r), end(r)]),
         4 => {
             let mut new = [end(r), end(r)];
             let side = r.below(2) as usize;
             damage_end(r, &mut new[side]);
-            Call::SetEnds(new)
+            Call::SetBoundaries(new)
         }
         5..=7 => Call::Greatest,
         _ => Call::Step(time(r, most)),
     }
 }
 
-/// As after an opening, or one time in four with carried water and a book that may be nearly full.
+/// As after an opening, or one time in four with carried water and a ledger that may be nearly full.
 fn start(r: &mut Random) -> Record {
     let n = match r.below(40) {
         0 => MOST_CELLS,
@@ -274,14 +274,14 @@ fn start(r: &mut Random) -> Record {
     if r.one_in(4) {
         return record(r, n);
     }
-    let ends = kinds(r);
+    let kinds = kinds(r);
     Record {
         book: Book::default(),
-        ..record_of(r, n, ends, false)
+        ..record_of(r, n, kinds, false)
     }
 }
 
-/// One list: each call is given the columns as they stand, and the ends and book last handed back.
+/// One list: each call is given the columns as they stand, and the boundaries and ledger last handed back.
 fn list(r: &mut Random, record: &mut Record, calls: u64, listed: &mut Listed) {
     listed.lengths.insert(record.columns.bed.len());
     for _ in 0..calls {
@@ -290,12 +290,12 @@ fn list(r: &mut Random, record: &mut Record, calls: u64, listed: &mut Listed) {
         let came_out = (call.name(), answer.refusal);
         *listed.calls.entry(came_out).or_default() += 1;
         if came_out == ("step", 0) {
-            *listed.settled.entry(answer.settled).or_default() += 1;
+            *listed.transported.entry(answer.transported).or_default() += 1;
         }
     }
 }
 
-/// 2,000 lists of up to 500 calls, each call compared, the moments of settling with it.
+/// 2,000 lists of up to 500 calls, each call compared, the moments of transport with it.
 #[test]
 fn lists_of_calls_agree() {
     let mut r = Random::new(29);
@@ -306,9 +306,9 @@ fn lists_of_calls_agree() {
         list(&mut r, &mut record, calls, &mut listed);
     }
     for came_out in [
-        ("settling", 0),
-        ("end setting", 0),
-        ("end setting", 6),
+        ("transport", 0),
+        ("setting of boundaries", 0),
+        ("setting of boundaries", 6),
         ("greatest step", 0),
         ("step", 0),
         ("step", 10),
@@ -318,11 +318,11 @@ fn lists_of_calls_agree() {
     ] {
         assert!(listed.calls.contains_key(&came_out), "{came_out:?}");
     }
-    assert_eq!(listed.settled.len(), 2, "{:?}", listed.settled);
+    assert_eq!(listed.transported.len(), 2, "{:?}", listed.transported);
     assert!(listed.lengths.contains(&1) && listed.lengths.contains(&MOST_CELLS));
 }
 
-/// Document 01: two cells, walls, X 1,000, depths 1,000,000 and 100,000 at rest, one step of 100, then a settling.
+/// Document 01: two cells, walls, X 1,000, depths 1,000,000 and 100,000 at rest, one step of 100, then a transport.
 #[test]
 fn two_cell_run() {
     let mut record = two_cells();
@@ -330,8 +330,11 @@ fn two_cell_run() {
     assert_eq!((stepped.refusal, stepped.settled), (0, false));
     assert_eq!(stepped.book, Book::default());
     assert_eq!(record.columns.carried, [0, 92_845, 0]);
-    let settled = calls::settle(&mut record);
-    assert_eq!((settled.refusal, settled.book), (0, Book::default()));
+    let transported = calls::transport(&mut record);
+    assert_eq!(
+        (transported.refusal, transported.book),
+        (0, Book::default())
+    );
     let c = &record.columns;
     assert_eq!(c.depth, [907_155, 192_845]);
     assert_eq!(c.discharge, [242_672_160, 242_672_160]);
@@ -343,7 +346,7 @@ fn two_cell_run() {
 /// Document 01: depth 1,000,000 at rest, X 1,000: t 260 passes CFL, 261 is 11.
 #[test]
 fn longest_step_at_one_metre() {
-    let still = settled(1_000, [WALL; 2], &[(0, 1_000_000, 0, 0)]);
+    let still = fresh(1_000, [WALL; 2], &[(0, 1_000_000, 0, 0)]);
     let mut record = still.clone();
     let refused = calls::step(&mut record, 261);
     assert_eq!((refused.refusal, refused.settled), (11, false));
@@ -358,7 +361,7 @@ fn level(x: u32, bed: impl Iterator<Item = i64>) -> Record {
         .map(|z| (z, (-z).max(0) as u64))
         .map(|(z, h)| (z, h, 0, 7 * h))
         .collect();
-    settled(x, [WALL; 2], &cells)
+    fresh(x, [WALL; 2], &cells)
 }
 
 /// 10,000 times the greatest step, and nothing at all has changed after each.
@@ -407,7 +410,7 @@ fn still_water_about_islands_stays_still() {
     ));
 }
 
-/// Water and nutrient held, less what came in, and with what went out, by the book: no call changes either.
+/// Water and mass held, less what came in, and with what went out, by the ledger: no call changes either.
 fn held_and_passed(record: &Record) -> [i128; 2] {
     let held = |column: &[u64]| column.iter().map(|&v| i128::from(v)).sum::<i128>();
     let k = totals(&record.book).map(i128::from);
@@ -417,10 +420,10 @@ fn held_and_passed(record: &Record) -> [i128; 2] {
     ]
 }
 
-/// Without the second implementation: after each call of a long list the book accounts for all water and nutrient, and no cell
+/// Without the second implementation: after each call of a long list the ledger accounts for all water and mass, and no cell
 /// is deeper than 4,000,000.
 #[test]
-fn the_book_accounts_for_water_and_nutrient() {
+fn the_ledger_accounts_for_water_and_mass() {
     let mut r = Random::new(37);
     let mut moved = BTreeSet::new();
     for _ in 0..200 {
@@ -430,7 +433,7 @@ fn the_book_accounts_for_water_and_nutrient() {
         for _ in 0..2_000 {
             let call = any_call(&mut r, calls::greatest_step(&record).t.into());
             let answer = call.ours(&mut record);
-            (record.ends, record.book) = (answer.ends, answer.book);
+            (record.ends, record.book) = (answer.boundaries, answer.ledger);
             assert_eq!(held_and_passed(&record), opening, "{call:?}");
             assert!(record.columns.depth.iter().all(|&h| h <= DEEPEST));
         }

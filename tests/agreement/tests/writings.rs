@@ -14,8 +14,8 @@ fn output(r: &mut Random, bytes: usize) -> Vec<u8> {
     (0..bytes).map(|_| r.below(256) as u8).collect()
 }
 
-/// Writes on both implementations into outputs that came alike: the answers and all bytes are the same, ends and book are handed back as
-/// they came, and a refused write leaves the output as it came. Gives the number and the output.
+/// Writes on both implementations into outputs that came alike: the answers and all bytes are the same, boundaries and ledger are handed
+/// back as they came, and a refused write leaves the output as it came. Gives the number and the output.
 fn same_writing(record: &Record, came: &[u8]) -> (u32, Vec<u8>) {
     let (mut out, mut theirs) = (came.to_vec(), came.to_vec());
     let answer = calls::write(record, &mut out);
@@ -35,8 +35,8 @@ fn same_writing(record: &Record, came: &[u8]) -> (u32, Vec<u8>) {
     (answer.refusal, out)
 }
 
-/// A settled record of n cells; one time in two it has a book.
-fn settled(r: &mut Random, n: usize) -> Record {
+/// A record of n cells with nothing carried; one time in two it has a ledger.
+fn writable(r: &mut Random, n: usize) -> Record {
     let kinds = kinds(r);
     let record = record_of(r, n, kinds, false);
     if r.one_in(2) {
@@ -56,15 +56,15 @@ fn cells(r: &mut Random) -> usize {
     }
 }
 
-/// A settled record written, into an output that may be longer than the sheet, opens as that record with an empty book; the bytes behind the
-/// sheet are as they came. The opened record is written again byte for byte.
+/// A record with nothing carried is written, into an output that may be longer than the sheet, and opens as that record with an empty ledger;
+/// the bytes behind the sheet are as they came. The opened record is written again byte for byte.
 #[test]
 fn records_come_back() {
     let mut r = Random::new(61);
     let (mut longer, mut lengths) = (0, BTreeSet::new());
     for _ in 0..22_000 {
         let n = cells(&mut r);
-        let record = settled(&mut r, n);
+        let record = writable(&mut r, n);
         let sheet = sheet_length(n);
         let more = r.pick(&[0, 0, 1, 7, 24, 1_000]);
         let came = output(&mut r, sheet + more);
@@ -117,7 +117,7 @@ fn grounds_of_a_write() {
     let mut seen = BTreeMap::new();
     while seen.values().sum::<u64>() < 40_000 {
         let n = cell_count(&mut r);
-        let record = settled(&mut r, n);
+        let record = writable(&mut r, n);
         let sheet = sheet_length(n);
         let short = r
             .pick(&[0, 1, 79, 80, sheet - 24, sheet - 1])

@@ -1,5 +1,5 @@
 //! A water step written for speed, as the opponent of the proved one: nothing is allocated, the checks take one pass and the
-//! amounts another, the wave speed of a cell is found once, and arithmetic is unchecked in the release profile.
+//! fluxes another, the wave speed of a cell is found once, and arithmetic is unchecked in the release profile.
 
 use reference::flux::{reduced_depth, wave_speed, Water};
 use reference::record::{
@@ -32,24 +32,24 @@ struct Facing {
 
 struct Crossing {
     water: i64,
-    push: i64,
+    momentum: i64,
     left: Facing,
     right: Facing,
 }
 
 #[inline(never)]
-pub fn step(c: &mut Columns, x: u32, ends: [End; 2], book: Book, t: u32) -> StepAnswer {
-    match try_step(c, x, &ends, &book, t) {
-        Ok((book, settled)) => StepAnswer {
+pub fn step(c: &mut Columns, x: u32, boundaries: [End; 2], ledger: Book, t: u32) -> StepAnswer {
+    match try_step(c, x, &boundaries, &ledger, t) {
+        Ok((ledger, transported)) => StepAnswer {
             refusal: 0,
-            ends,
-            book,
-            settled,
+            ends: boundaries,
+            book: ledger,
+            settled: transported,
         },
         Err(refusal) => StepAnswer {
             refusal,
-            ends,
-            book,
+            ends: boundaries,
+            book: ledger,
             settled: false,
         },
     }
@@ -59,33 +59,33 @@ pub fn step(c: &mut Columns, x: u32, ends: [End; 2], book: Book, t: u32) -> Step
 fn try_step(
     c: &mut Columns,
     x: u32,
-    ends: &[End; 2],
-    book: &Book,
+    boundaries: &[End; 2],
+    ledger: &Book,
     t: u32,
 ) -> Result<(Book, bool), u32> {
-    let n = check(c, x, ends, book)?;
+    let n = check(c, x, boundaries, ledger)?;
     ground(10, (1..=MOST_T).contains(&t))?;
     let (t, x) = (u64::from(t), u64::from(x));
-    let found = find(c, n, ends, t, x);
+    let found = find(c, n, boundaries, t, x);
     ground(11, t * found.reach <= 1_000 * x)?;
     ground(12, found.deepest <= DEEPEST as i64)?;
-    let book = gain(c, n, ends, book, &found)?;
+    let ledger = gain(c, n, boundaries, ledger, &found)?;
     if !found.keeps {
-        settle(c, n, ends);
+        transport(c, n, boundaries);
     }
     write(c, n, &found);
-    Ok((book, !found.keeps))
+    Ok((ledger, !found.keeps))
 }
 
 /// Grounds 4 to 9, the cells in one pass. Where a value is out of range what follows may wrap, and is not looked at.
 #[inline]
-fn check(c: &Columns, x: u32, ends: &[End; 2], book: &Book) -> Result<usize, u32> {
+fn check(c: &Columns, x: u32, boundaries: &[End; 2], ledger: &Book) -> Result<usize, u32> {
     let n = c.bed.len();
     ground(4, (1..=MOST_CELLS).contains(&n) && c.fit(n))?;
     ground(5, length_sound(x))?;
-    ground(6, ends.iter().all(end_sound))?;
+    ground(6, boundaries.iter().all(end_sound))?;
     let (bed, depth, discharge) = (&c.bed[..n], &c.depth[..n], &c.discharge[..n]);
-    let (nutrient, base, carried) = (&c.nutrient[..n], &c.base[..n], &c.carried[..n + 1]);
+    let (mass, base, carried) = (&c.nutrient[..n], &c.base[..n], &c.carried[..n + 1]);
     let (mut ranges, mut sums) = (true, carried[0].unsigned_abs() <= DEEPEST);
     for i in 0..n {
         let (h, b, left, right) = (depth[i], base[i], carried[i], carried[i + 1]);
@@ -93,44 +93,45 @@ fn check(c: &Columns, x: u32, ends: &[End; 2], book: &Book) -> Result<usize, u32
             & (h <= DEEPEST)
             & (b <= DEEPEST)
             & (discharge[i].unsigned_abs() <= FASTEST.wrapping_mul(h))
-            & (nutrient[i] <= RICHEST.wrapping_mul(b));
+            & (mass[i] <= RICHEST.wrapping_mul(b));
         let out = right.max(0).wrapping_add(left.wrapping_neg().max(0));
         sums &= (right.unsigned_abs() <= DEEPEST)
             & (h as i64 == (b as i64).wrapping_add(left).wrapping_sub(right))
             & (out <= b as i64);
     }
     ground(7, ranges)?;
-    sums &= (ends[0].kind != WALL || carried[0] == 0) && (ends[1].kind != WALL || carried[n] == 0);
+    let [left, right] = boundaries;
+    sums &= (left.kind != WALL || carried[0] == 0) && (right.kind != WALL || carried[n] == 0);
     ground(8, sums)?;
-    ground(9, full(book) <= MOST_TOTAL)?;
+    ground(9, full(ledger) <= MOST_TOTAL)?;
     Ok(n)
 }
 
 /// The greatest total.
 #[inline]
-fn full(book: &Book) -> u64 {
-    [book.left, book.right]
+fn full(ledger: &Book) -> u64 {
+    [ledger.left, ledger.right]
         .map(|k| (k.water_in.max(k.water_out)).max(k.nutrient_in.max(k.nutrient_out)))
         .into_iter()
         .fold(0, u64::max)
 }
 
-/// The water beyond an end.
+/// The water beyond a boundary.
 #[inline]
-fn beyond(end: &End, cell: Water) -> Water {
-    match end.kind {
+fn beyond(boundary: &End, cell: Water) -> Water {
+    match boundary.kind {
         WALL => Water {
             speed: -cell.speed,
             ..cell
         },
-        FED => Water::new(cell.bed, u64::from(end.depth), end.discharge),
+        FED => Water::new(cell.bed, u64::from(boundary.depth), boundary.discharge),
         _ => cell,
     }
 }
 
 /// One pass over the interfaces, left to right.
 #[inline]
-fn find(c: &Columns, n: usize, ends: &[End; 2], t: u64, x: u64) -> Found {
+fn find(c: &Columns, n: usize, boundaries: &[End; 2], t: u64, x: u64) -> Found {
     let (bed, depth, discharge) = (&c.bed[..n], &c.depth[..n], &c.discharge[..n]);
     let (base, carried) = (&c.base[..n], &c.carried[..n + 1]);
     let water = |i: usize| Water::new(bed[i], depth[i], discharge[i]);
@@ -142,7 +143,7 @@ fn find(c: &Columns, n: usize, ends: &[End; 2], t: u64, x: u64) -> Found {
         keeps: true,
     };
     let mut cell = water(0);
-    let before = beyond(&ends[0], cell);
+    let before = beyond(&boundaries[0], cell);
     let mut left = crossing(t, x, &before, &cell);
     let mut left_sum = carried[0] + left.water;
     found.reach = before.reach().max(cell.reach());
@@ -151,13 +152,14 @@ fn find(c: &Columns, n: usize, ends: &[End; 2], t: u64, x: u64) -> Found {
         let next = if i + 1 < n {
             water(i + 1)
         } else {
-            beyond(&ends[1], cell)
+            beyond(&boundaries[1], cell)
         };
         let right = crossing(t, x, &cell, &next);
         let new_depth = depth[i] as i64 + left.water - right.water;
-        let pushed = discharge[i] + left.push - right.push + bed_push(t, x, right.left, left.right);
+        let unclamped = discharge[i] + left.momentum - right.momentum
+            + bed_thrust(t, x, right.left, left.right);
         let most = FASTEST as i64 * new_depth;
-        found.discharge[i] = pushed.min(most).max(-most);
+        found.discharge[i] = unclamped.min(most).max(-most);
         found.water[i + 1] = right.water;
         found.reach = found.reach.max(next.reach());
         found.deepest = found.deepest.max(new_depth);
@@ -172,11 +174,11 @@ fn find(c: &Columns, n: usize, ends: &[End; 2], t: u64, x: u64) -> Found {
 #[inline]
 fn crossing(t: u64, x: u64, l: &Water, r: &Water) -> Crossing {
     let (left, right) = (facing(l, r.bed), facing(r, l.bed));
-    let (from_left, push_left) = amounts(t, x, left, l.speed);
-    let (from_right, push_right) = amounts(t, x, right, -r.speed);
+    let (from_left, momentum_left) = fluxes(t, x, left, l.speed);
+    let (from_right, momentum_right) = fluxes(t, x, right, -r.speed);
     Crossing {
         water: from_left as i64 - from_right as i64,
-        push: (push_left + push_right) as i64,
+        momentum: (momentum_left + momentum_right) as i64,
         left,
         right,
     }
@@ -195,7 +197,7 @@ fn facing(w: &Water, other: i64) -> Facing {
 
 /// W and Q of one side.
 #[inline]
-fn amounts(t: u64, x: u64, side: Facing, u: i64) -> (u64, u64) {
+fn fluxes(t: u64, x: u64, side: Facing, u: i64) -> (u64, u64) {
     if side.depth == 0 {
         return (0, 0);
     }
@@ -213,7 +215,7 @@ fn amounts(t: u64, x: u64, side: Facing, u: i64) -> (u64, u64) {
 
 /// S at the right less S at the left: nothing where the bed reduces neither depth or both alike.
 #[inline]
-fn bed_push(t: u64, x: u64, right: Facing, left: Facing) -> i64 {
+fn bed_thrust(t: u64, x: u64, right: Facing, left: Facing) -> i64 {
     let still =
         |side: Facing| 2 * (side.depth * t * (side.wave * side.wave / 6) / (1_000 * x)) as i64;
     if right.depth == left.depth {
@@ -223,39 +225,45 @@ fn bed_push(t: u64, x: u64, right: Facing, left: Facing) -> i64 {
     }
 }
 
-/// The book after the step; ground 13.
+/// The ledger after the step; ground 13.
 #[inline]
-fn gain(c: &Columns, n: usize, ends: &[End; 2], book: &Book, found: &Found) -> Result<Book, u32> {
+fn gain(
+    c: &Columns,
+    n: usize,
+    boundaries: &[End; 2],
+    ledger: &Book,
+    found: &Found,
+) -> Result<Book, u32> {
     let mut gains = Book::default();
     if !found.keeps {
-        gains = end_nutrient(c, ends);
+        gains = end_nutrient(c, boundaries);
     }
     let (left, right) = (found.water[0], found.water[n]);
     gains.left.water_in = left.max(0) as u64;
     gains.left.water_out = (-left).max(0) as u64;
     gains.right.water_in = (-right).max(0) as u64;
     gains.right.water_out = right.max(0) as u64;
-    book.gain(&gains)
+    ledger.gain(&gains)
 }
 
 /// Moves the shares under the old sums; b becomes h, c becomes 0.
 #[inline]
-fn settle(c: &mut Columns, n: usize, ends: &[End; 2]) {
-    let (nutrient, base) = (&mut c.nutrient[..n], &mut c.base[..n]);
+fn transport(c: &mut Columns, n: usize, boundaries: &[End; 2]) {
+    let (mass, base) = (&mut c.nutrient[..n], &mut c.base[..n]);
     let (depth, carried) = (&c.depth[..n], &mut c.carried[..n + 1]);
-    let mut from_left = carried[0].max(0) as u64 * u64::from(ends[0].concentration);
+    let mut from_left = carried[0].max(0) as u64 * u64::from(boundaries[0].concentration);
     let mut stays = 0;
     for i in 0..n {
-        let leaving = shares(nutrient[i], base[i], carried[i], carried[i + 1]);
+        let leaving = shares(mass[i], base[i], carried[i], carried[i + 1]);
         // the cell to the left is complete with this cell's left share
         if i > 0 {
-            nutrient[i - 1] = stays + leaving.left;
+            mass[i - 1] = stays + leaving.left;
         }
-        stays = nutrient[i] - leaving.right - leaving.left + from_left;
+        stays = mass[i] - leaving.right - leaving.left + from_left;
         from_left = leaving.right;
         base[i] = depth[i];
     }
-    nutrient[n - 1] = stays + (-carried[n]).max(0) as u64 * u64::from(ends[1].concentration);
+    mass[n - 1] = stays + (-carried[n]).max(0) as u64 * u64::from(boundaries[1].concentration);
     carried.fill(0);
 }
 

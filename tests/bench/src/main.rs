@@ -60,16 +60,16 @@ fn reference_side(t: u64, x: u64, h: u64, u: i64) -> flux::Side {
 }
 
 /// Each call on a record that carries water over most interfaces; putting the record back as it came counts for both.
-fn compare_settling(r: &mut Random, cells: usize) {
+fn compare_transport(r: &mut Random, cells: usize) {
     let records: Vec<Record> = (0..40).map(|_| record_of(r, cells, [2, 1], true)).collect();
     let scratch = std::cell::RefCell::new(records[0].clone());
     compare(
-        &format!("settling {cells} cells"),
+        &format!("transport of {cells} cells"),
         &(0..records.len()).collect::<Vec<_>>(),
         |i| {
             let mut record = scratch.borrow_mut();
             record.clone_from(&records[i]);
-            agreement::calls::settle(&mut record)
+            agreement::calls::transport(&mut record)
         },
         |i| {
             let mut record = scratch.borrow_mut();
@@ -106,22 +106,22 @@ struct Planned {
 /// `slope` a cell, and every cell differs a little from its neighbours.
 fn flow(r: &mut Random, cells: usize, slope: i64) -> Record {
     let mut columns = Columns::of_cells(cells);
-    let (depth, speed) = (r.between(1_000_000, 2_000_000), r.between(500, 1_500));
+    let (depth, velocity) = (r.between(1_000_000, 2_000_000), r.between(500, 1_500));
     for i in 0..cells {
         let h = depth + r.between(-20_000, 20_000);
         columns.bed[i] = -slope * i as i64;
         columns.depth[i] = h as u64;
         columns.base[i] = h as u64;
-        columns.discharge[i] = h * speed + r.between(-20, 20) * h;
+        columns.discharge[i] = h * velocity + r.between(-20, 20) * h;
         columns.nutrient[i] = r.below(500_000) * h as u64;
     }
-    let mut ends = [FED, OPEN].map(|kind| end_of_kind(r, kind));
-    ends[0].depth = depth as u32;
-    ends[0].discharge = depth * speed;
+    let mut boundaries = [FED, OPEN].map(|kind| end_of_kind(r, kind));
+    boundaries[0].depth = depth as u32;
+    boundaries[0].discharge = depth * velocity;
     Record {
         columns,
         x: 10_000,
-        ends,
+        ends: boundaries,
         book: Book::default(),
     }
 }
@@ -136,8 +136,8 @@ fn reference_step(p: &mut Planned) -> reference::StepAnswer {
     reference::step(columns, *x, *ends, *book, p.t)
 }
 
-/// Accepted greatest steps that settle, or that keep their sums, each out of a flow of its own some steps old.
-fn planned(r: &mut Random, cells: usize, slope: i64, settles: bool) -> Vec<Planned> {
+/// Accepted greatest steps with a transport first, or that keep their sums, each out of a flow of its own some steps old.
+fn planned(r: &mut Random, cells: usize, slope: i64, transported: bool) -> Vec<Planned> {
     let mut list = Vec::new();
     while list.len() < 40 {
         let mut now = flow(r, cells, slope);
@@ -148,7 +148,7 @@ fn planned(r: &mut Random, cells: usize, slope: i64, settles: bool) -> Vec<Plann
             let mut p = Planned { record: now, t };
             let answer = reference_step(&mut p);
             assert_eq!(answer.refusal, 0);
-            if age == 0 && answer.settled == settles {
+            if age == 0 && answer.settled == transported {
                 list.push(Planned { record: before, t });
                 break;
             }
@@ -181,16 +181,16 @@ fn compare_step(name: &str, list: &[Planned]) -> f64 {
     )
 }
 
-/// Steps that keep their sums, steps that settle, and steps over a flat bed, of 512 and of 64 cells.
+/// Steps that keep their sums, steps with a transport first, and steps over a flat bed, of 512 and of 64 cells.
 fn compare_steps(r: &mut Random) {
     let kinds = [
         ("sloping bed", 1_000, false),
-        ("sloping bed, settling", 1_000, true),
+        ("sloping bed, transport", 1_000, true),
         ("flat bed", 0, false),
     ];
-    for (kind, slope, settles) in kinds {
+    for (kind, slope, transported) in kinds {
         let [long, short] = [512, 64].map(|cells| {
-            let list = planned(r, cells, slope, settles);
+            let list = planned(r, cells, slope, transported);
             compare_step(&format!("step of {cells} cells, {kind}"), &list) / cells as f64
         });
         let ratio = long / short;
@@ -204,7 +204,7 @@ fn compare_steps(r: &mut Random) {
     }
 }
 
-/// The whole program on the longest run that it takes: 1,000 steps on 512 cells, opened, settled and printed.
+/// The whole program on the longest run that it takes: 1,000 steps on 512 cells, opened, transported and printed.
 fn compare_program(r: &mut Random) {
     let mut now = flow(r, 512, 1_000);
     now.ends = [FED, OPEN].map(|kind| end_of_kind(r, kind));
@@ -265,7 +265,7 @@ fn main() {
         |(h, u)| reference_side(100, 1_000, h, u),
         1.2,
     );
-    compare_settling(&mut r, 512);
+    compare_transport(&mut r, 512);
     compare_greatest(&mut r, 512);
     compare_steps(&mut r);
     compare_program(&mut r);

@@ -87,8 +87,8 @@ fn report(run: &Run, words: &str) -> Result<(), Failure> {
 
 fn made_line(made: &Made) -> String {
     let (time, steps) = (seconds(made.time), counted(made.steps, "step"));
-    let settlings = counted(made.settlings, "settling");
-    format!("{time} s of canal time: {steps}, {settlings} (the last one at the end)\n")
+    let transports = counted(made.transports, "transport");
+    format!("{time} s of canal time: {steps}, {transports} (the last one at the end)\n")
 }
 
 fn stop(sheet: &Place, stopped: &Stopped, record: &Record) -> String {

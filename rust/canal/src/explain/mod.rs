@@ -39,7 +39,7 @@ pub fn explain(sheet: &[u8]) -> Option<Explanation> {
         .or_else(|| found(Refusal::Size, size(&header, sheet.len())))
         .or_else(|| found(Refusal::Layout, columns(&header)))
         .or_else(|| found(Refusal::CellLength, cell_length(&header)))
-        .or_else(|| found(Refusal::Ends, ends(&header)))
+        .or_else(|| found(Refusal::Boundaries, boundaries(&header)))
         .or_else(|| found(Refusal::Values, values(&header, sheet)))
 }
 
@@ -146,25 +146,25 @@ fn cell_length(header: &Header) -> Vec<Fault> {
     words.into_iter().map(fault).collect()
 }
 
-fn ends(header: &Header) -> Vec<Fault> {
-    let [left, right] = &header.ends;
-    let mut faults = end("left end", left);
-    faults.extend(end("right end", right));
+fn boundaries(header: &Header) -> Vec<Fault> {
+    let [left, right] = &header.boundaries;
+    let mut faults = boundary("left boundary", left);
+    faults.extend(boundary("right boundary", right));
     faults
 }
 
-fn end(side: &str, end: &Boundary) -> Vec<Fault> {
-    let words = match end.kind {
-        0 => wall(end),
-        1 => open(end),
-        2 => fed(end),
+fn boundary(name: &str, boundary: &Boundary) -> Vec<Fault> {
+    let words = match boundary.kind {
+        0 => wall(boundary),
+        1 => open(boundary),
+        2 => fed(boundary),
         kind => vec![Some(format!(
             "kind {kind} is none of 0 wall, 1 open, 2 fed"
         ))],
     };
-    let reserved = zero("the zero field", end.reserved.into());
+    let reserved = zero("the reserved field", boundary.reserved.into());
     let words = words.into_iter().chain([reserved]).flatten();
-    words.map(|w| fault(format!("{side}: {w}"))).collect()
+    words.map(|w| fault(format!("{name}: {w}"))).collect()
 }
 
 fn values(header: &Header, sheet: &[u8]) -> Vec<Fault> {

@@ -3,37 +3,37 @@
 use crate::limits::*;
 use jemmyfern::Boundary;
 
-pub fn wall(end: &Boundary) -> Vec<Option<String>> {
+pub fn wall(boundary: &Boundary) -> Vec<Option<String>> {
     vec![
-        zero("depth of a wall", end.depth.into()),
-        zero("discharge of a wall", end.discharge.into()),
-        zero("concentration of a wall", end.concentration.into()),
+        zero("depth of a wall", boundary.depth.into()),
+        zero("discharge of a wall", boundary.discharge.into()),
+        zero("concentration of a wall", boundary.concentration.into()),
     ]
 }
 
-pub fn open(end: &Boundary) -> Vec<Option<String>> {
+pub fn open(boundary: &Boundary) -> Vec<Option<String>> {
     vec![
-        zero("depth of an open end", end.depth.into()),
-        zero("discharge of an open end", end.discharge.into()),
-        concentration(end),
+        zero("depth of an open boundary", boundary.depth.into()),
+        zero("discharge of an open boundary", boundary.discharge.into()),
+        concentration(boundary),
     ]
 }
 
-pub fn fed(end: &Boundary) -> Vec<Option<String>> {
+pub fn fed(boundary: &Boundary) -> Vec<Option<String>> {
     vec![
         outside(
-            "depth of a fed end",
-            end.depth.into(),
+            "depth of a fed boundary",
+            boundary.depth.into(),
             (1, DEPTH_MOST.into()),
         ),
-        discharge(end.discharge, end.depth),
-        concentration(end),
+        discharge(boundary.discharge, boundary.depth),
+        concentration(boundary),
     ]
 }
 
-fn concentration(end: &Boundary) -> Option<String> {
+fn concentration(boundary: &Boundary) -> Option<String> {
     let range = (0, CONCENTRATION_MOST.into());
-    outside("concentration", end.concentration.into(), range)
+    outside("concentration", boundary.concentration.into(), range)
 }
 
 pub fn mass(mass: u64, depth: u64) -> Option<String> {

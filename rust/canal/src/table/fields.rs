@@ -41,7 +41,7 @@ pub fn cell_length(words: &[&str]) -> Result<u64, String> {
     }
 }
 
-pub fn end(words: &[&str]) -> Result<Boundary, String> {
+pub fn boundary(words: &[&str]) -> Result<Boundary, String> {
     match words {
         ["wall"] => Ok(Boundary::WALL),
         ["wall", ..] => Err("nothing stands behind 'wall'".into()),
@@ -58,7 +58,9 @@ pub fn end(words: &[&str]) -> Result<Boundary, String> {
                 concentration as u64,
             ))
         }
-        [word, ..] => Err(format!("'{word}' is not an end; ends are wall, open, fed")),
+        [word, ..] => Err(format!(
+            "'{word}' is not a boundary; boundaries are wall, open, fed"
+        )),
         [] => Err("wall, open or fed is wanted".into()),
     }
 }

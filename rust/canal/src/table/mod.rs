@@ -24,13 +24,13 @@ pub use read::{read, Table, TableError};
 /// The columns, in the order that `cells` means.
 pub const COLUMNS: [&str; 4] = ["bed", "depth", "discharge", "mass"];
 
-/// The text of a settled record.
+/// The text of a record. A table has no carried water, so transport first.
 pub fn write(record: &Record) -> String {
-    let [left, right] = &record.ends;
+    let [left, right] = &record.boundaries;
     let mut lines = vec![
         format!("cell_length {}", record.cell_length),
-        format!("left {}", end(left)),
-        format!("right {}", end(right)),
+        format!("left {}", boundary(left)),
+        format!("right {}", boundary(right)),
         "cells".to_string(),
         format!("# {}", COLUMNS.join(" ")),
     ];
@@ -53,14 +53,14 @@ pub fn looks_like_one(bytes: &[u8]) -> bool {
     lines && text.chars().all(printable) && !text.starts_with('<')
 }
 
-fn end(end: &Boundary) -> String {
+fn boundary(boundary: &Boundary) -> String {
     let Boundary {
         kind,
         depth,
         concentration,
         discharge,
         ..
-    } = end;
+    } = boundary;
     match kind {
         0 => "wall".to_string(),
         1 => format!("open concentration {concentration}"),

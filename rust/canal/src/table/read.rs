@@ -89,8 +89,8 @@ impl Reader {
                 let length = cell_length(rest)?;
                 once("cell_length", &mut self.cell_length, length)
             }
-            ["left", rest @ ..] => once("left", &mut self.left, named("left", end(rest))?),
-            ["right", rest @ ..] => once("right", &mut self.right, named("right", end(rest))?),
+            ["left", rest @ ..] => once("left", &mut self.left, named("left", boundary(rest))?),
+            ["right", rest @ ..] => once("right", &mut self.right, named("right", boundary(rest))?),
             ["cells"] => self.begin_rows(&COLUMNS),
             ["cells", names @ ..] => self.begin_rows(names),
             [name, ..] if COLUMNS.contains(name) => self.begin_rows(words),
@@ -164,7 +164,7 @@ impl Reader {
             discharge: signed(|r| r.discharge),
             mass: column(|r| r.mass),
             cell_length,
-            ends: [left, right],
+            boundaries: [left, right],
             ..Record::new(self.rows.len())
         };
         Ok(Table {

@@ -59,7 +59,7 @@ fn damage(sheet: &mut Vec<u8>, dice: &mut Dice) {
         0 => sheet.truncate(dice.to(sheet.len() as u64) as usize),
         1 => sheet.extend(&number[..1 + dice.to(7) as usize]),
         2 => put(sheet, 4 * dice.to(19) as usize, &number[..4]),
-        // the offsets and the ends have the most rules
+        // the offsets and the boundaries have the most rules
         3 => put(sheet, 16 + 4 * dice.to(3) as usize, &number[..4]),
         4 => put(sheet, 32 + 4 * dice.to(11) as usize, &number[..4]),
         5 => put(sheet, [48, 72][dice.to(1) as usize], &number),

@@ -25,18 +25,18 @@ fn header(at: usize, number: u32) -> Vec<u8> {
     sheet
 }
 
-fn left(end: Boundary) -> Vec<u8> {
-    sheet(|r| r.ends[0] = end)
+fn left(boundary: Boundary) -> Vec<u8> {
+    sheet(|r| r.boundaries[0] = boundary)
 }
 
-fn right(end: Boundary) -> Vec<u8> {
-    sheet(|r| r.ends[1] = end)
+fn right(boundary: Boundary) -> Vec<u8> {
+    sheet(|r| r.boundaries[1] = boundary)
 }
 
 #[test]
 fn what_opens_is_described() {
     let sheet = sheet(|r| {
-        r.ends = [Boundary::open(5), Boundary::fed(500_000, -2_000_000, 1_200)];
+        r.boundaries = [Boundary::open(5), Boundary::fed(500_000, -2_000_000, 1_200)];
         r.bed = vec![-1_500_000, 0, 20_000];
         r.mass[1] = 5_000;
         r.depth[0] = 0;
@@ -45,15 +45,15 @@ fn what_opens_is_described() {
     assert_eq!((answer.status, &*answer.errors), (0, ""));
     let lines = [
         "3 cells of 1000 mm (at most 512), 3 m in all; 152 bytes, columns in the writer's order",
-        "left end       open; water coming in has 5 µg/l",
-        "right end      fed with depth 500000 µm (0.5 m), discharge -2000000 µm·mm/s (-0.002 m²/s), 1200 µg/l",
+        "left boundary  open; water coming in has 5 µg/l",
+        "right boundary fed with depth 500000 µm (0.5 m), discharge -2000000 µm·mm/s (-0.002 m²/s), 1200 µg/l",
         "bed level      -1500000 to 20000 µm (-1.5 to 0.02 m)",
         "depth          0 to 3000 µm (0 to 0.003 m); 1 cell dry",
         "discharge      0 to 0 µm·mm/s (0 to 0 m²/s)",
         "concentration  0 to 2.5 µg/l",
         "water held     5000 µm of a cell = 0.005 m³ per metre of width",
-        "nutrient held  5000 grains = 0.000005 g per metre of width",
-        "greatest step  368 ms, set by the right end",
+        "mass held      5000 grains = 0.000005 g per metre of width",
+        "greatest step  368 ms, set by the right boundary",
     ];
     assert_eq!(answer.text(), lines.join("\n") + "\n");
 }
@@ -79,10 +79,10 @@ fn the_longest_step_is_not_set_by_slow_water() {
             sheet(|r| r.depth.fill(0)),
             "1000 ms, the longest allowed (all dry)".into(),
         ),
-        // an open end has no water of its own, a fed one has
+        // an open boundary has no water of its own, a fed one has
         (
             Record {
-                ends: [Boundary::open(5); 2],
+                boundaries: [Boundary::open(5); 2],
                 ..Record::new(2)
             }
             .draft_sheet(),
@@ -90,11 +90,11 @@ fn the_longest_step_is_not_set_by_slow_water() {
         ),
         (
             Record {
-                ends: [Boundary::WALL, Boundary::fed(1_000, 0, 0)],
+                boundaries: [Boundary::WALL, Boundary::fed(1_000, 0, 0)],
                 ..Record::new(2)
             }
             .draft_sheet(),
-            format!("{slow}the right end)"),
+            format!("{slow}the right boundary)"),
         ),
     ];
     for (sheet, words) in cases {
@@ -228,30 +228,30 @@ fn ground_5() {
 fn ground_6() {
     let wall = Boundary::WALL;
     let open = Boundary::open(0);
-    let fed_end = Boundary::fed;
+    let fed_boundary = Boundary::fed;
     assert_told(&[
-        (left(Boundary { kind: 3, ..wall }), "refused 6: left end: kind 3 is none of 0 wall, 1 open, 2 fed"),
-        (right(Boundary { depth: 1, ..wall }), "refused 6: right end: depth of a wall is 1, not 0"),
-        (left(Boundary { discharge: -1, ..wall }), "refused 6: left end: discharge of a wall is -1, not 0"),
-        (left(Boundary { concentration: 1, ..wall }), "refused 6: left end: concentration of a wall is 1, not 0"),
-        (left(Boundary { reserved: 9, ..wall }), "refused 6: left end: the zero field is 9, not 0"),
-        (right(Boundary { depth: 1, ..open }), "refused 6: right end: depth of an open end is 1, not 0"),
-        (right(Boundary { discharge: 1, ..open }), "refused 6: right end: discharge of an open end is 1, not 0"),
-        (right(Boundary::open(500_001)), "refused 6: right end: concentration 500001 is above 500000"),
-        (left(fed_end(0, 0, 0)), "refused 6: left end: depth of a fed end 0 is below 1"),
-        (left(fed_end(4_000_001, 0, 0)), "refused 6: left end: depth of a fed end 4000001 is above 4000000"),
-        (left(fed_end(2, 16_001, 0)), "refused 6: left end: discharge 16001 is above 16000 (8000 times the depth 2)"),
-        (right(fed_end(2, -16_001, 0)), "refused 6: right end: discharge -16001 is below -16000 (8000 times the depth 2)"),
-        (right(fed_end(1, i64::MIN, 0)), "refused 6: right end: discharge -9223372036854775808 is below -8000 (8000 times the depth 1)"),
-        (right(fed_end(1, 0, 500_001)), "refused 6: right end: concentration 500001 is above 500000"),
+        (left(Boundary { kind: 3, ..wall }), "refused 6: left boundary: kind 3 is none of 0 wall, 1 open, 2 fed"),
+        (right(Boundary { depth: 1, ..wall }), "refused 6: right boundary: depth of a wall is 1, not 0"),
+        (left(Boundary { discharge: -1, ..wall }), "refused 6: left boundary: discharge of a wall is -1, not 0"),
+        (left(Boundary { concentration: 1, ..wall }), "refused 6: left boundary: concentration of a wall is 1, not 0"),
+        (left(Boundary { reserved: 9, ..wall }), "refused 6: left boundary: the reserved field is 9, not 0"),
+        (right(Boundary { depth: 1, ..open }), "refused 6: right boundary: depth of an open boundary is 1, not 0"),
+        (right(Boundary { discharge: 1, ..open }), "refused 6: right boundary: discharge of an open boundary is 1, not 0"),
+        (right(Boundary::open(500_001)), "refused 6: right boundary: concentration 500001 is above 500000"),
+        (left(fed_boundary(0, 0, 0)), "refused 6: left boundary: depth of a fed boundary 0 is below 1"),
+        (left(fed_boundary(4_000_001, 0, 0)), "refused 6: left boundary: depth of a fed boundary 4000001 is above 4000000"),
+        (left(fed_boundary(2, 16_001, 0)), "refused 6: left boundary: discharge 16001 is above 16000 (8000 times the depth 2)"),
+        (right(fed_boundary(2, -16_001, 0)), "refused 6: right boundary: discharge -16001 is below -16000 (8000 times the depth 2)"),
+        (right(fed_boundary(1, i64::MIN, 0)), "refused 6: right boundary: discharge -9223372036854775808 is below -8000 (8000 times the depth 1)"),
+        (right(fed_boundary(1, 0, 500_001)), "refused 6: right boundary: concentration 500001 is above 500000"),
     ]);
-    for end in [
+    for boundary in [
         Boundary::open(500_000),
-        fed_end(1, 8_000, 500_000),
-        fed_end(4_000_000, -32_000_000_000, 0),
+        fed_boundary(1, 8_000, 500_000),
+        fed_boundary(4_000_000, -32_000_000_000, 0),
     ] {
-        assert_eq!(fed(&["inspect", "-"], &left(end)).status, 0);
-        assert_eq!(fed(&["inspect", "-"], &right(end)).status, 0);
+        assert_eq!(fed(&["inspect", "-"], &left(boundary)).status, 0);
+        assert_eq!(fed(&["inspect", "-"], &right(boundary)).status, 0);
     }
 }
 

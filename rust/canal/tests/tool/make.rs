@@ -101,7 +101,7 @@ fn wrong_lines_are_told_with_number_and_name() {
         (
             2,
             "left door",
-            "line 2: left: 'door' is not an end; ends are wall, open, fed",
+            "line 2: left: 'door' is not a boundary; boundaries are wall, open, fed",
         ),
         (2, "left open", "line 2: left: concentration is missing"),
         (

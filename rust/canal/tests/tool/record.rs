@@ -33,12 +33,12 @@ fn a_value_too_great_for_its_field_is_still_refused() {
         Some(Refusal::CellLength)
     );
     assert_eq!(
-        refused(|r| r.ends[0] = Boundary::open(1 << 32)),
-        Some(Refusal::Ends)
+        refused(|r| r.boundaries[0] = Boundary::open(1 << 32)),
+        Some(Refusal::Boundaries)
     );
     assert_eq!(
-        refused(|r| r.ends[1] = Boundary::fed((1 << 32) + 1, 0, 0)),
-        Some(Refusal::Ends)
+        refused(|r| r.boundaries[1] = Boundary::fed((1 << 32) + 1, 0, 0)),
+        Some(Refusal::Boundaries)
     );
 }
 
@@ -54,15 +54,17 @@ fn columns_of_unequal_lengths_make_a_refused_draft() {
 }
 
 #[test]
-fn a_record_keeps_its_ends_and_ledger() {
+fn a_record_keeps_its_boundaries_and_ledger() {
     let mut record = Record::new(2);
-    let ends = [Boundary::fed(500_000, 0, 7), Boundary::open(0)];
-    record.with(|reach| reach.set_ends(ends)).expect("set");
-    assert_eq!(record.ends, ends);
+    let boundaries = [Boundary::fed(500_000, 0, 7), Boundary::open(0)];
+    record
+        .with(|reach| reach.set_boundaries(boundaries))
+        .expect("set");
+    assert_eq!(record.boundaries, boundaries);
     record.with(|reach| reach.step(10)).expect("a step");
     assert!(record.ledger.left.water_in > 0);
-    assert_eq!(record.to_sheet(), Err(Refusal::NotSettled));
-    record.with(|reach| reach.settle()).expect("a settling");
+    assert_eq!(record.to_sheet(), Err(Refusal::NotTransported));
+    record.with(|reach| reach.transport()).expect("a transport");
     assert_eq!(record.ledger.left.mass_in, 7 * record.ledger.left.water_in);
     assert!(record.to_sheet().is_ok());
 }

@@ -15,7 +15,7 @@ fn two_cells() -> Vec<u8> {
 /// Water comes in at the left, flows over a sill, and leaves at the right.
 fn flowing() -> Record {
     let mut record = Record::new(60);
-    record.ends = [
+    record.boundaries = [
         Boundary::fed(900_000, 300_000_000, 2_500),
         Boundary::open(40),
     ];
@@ -52,7 +52,7 @@ fn the_figures_of_the_paper() {
     assert!(
         answer
             .text()
-            .starts_with("0.1 s of canal time: 1 step, 1 settling "),
+            .starts_with("0.1 s of canal time: 1 step, 1 transport "),
         "{}",
         answer.text()
     );
@@ -72,7 +72,7 @@ fn the_report_accounts_for_all() {
         .lines()
         .map(|l| l.split_whitespace().collect::<Vec<_>>().join(" "))
         .collect();
-    assert_eq!(lines[1], "water: µm m³/m nutrient: grains g/m");
+    assert_eq!(lines[1], "water: µm m³/m mass: grains g/m");
     assert_eq!(lines[2], "held before 1100000 1.1 3000000 0.003");
     assert_eq!(lines[3], "in at the left 0 0 0 0");
     assert_eq!(lines[7], "held after 1100000 1.1 3000000 0.003");
@@ -134,7 +134,7 @@ fn greatest_steps_end_exactly_on_time() {
     let mut times = vec![0];
     let made = run(&mut record, 12_345, None, |made| times.push(made.time)).expect("it runs");
     assert_eq!((made.time, made.steps), (12_345, times.len() as u64 - 1));
-    assert!((1..=made.steps + 1).contains(&made.settlings));
+    assert!((1..=made.steps + 1).contains(&made.transports));
     assert!(record.carried.iter().all(|&c| c == 0));
     assert!(Balance::of(before, &record).closes());
     // each but the last is the greatest that the record allowed
@@ -145,7 +145,7 @@ fn greatest_steps_end_exactly_on_time() {
         assert!(t == greatest || (t < greatest && pair[1] == 12_345));
         again.with(|reach| reach.step(t)).expect("a step");
     }
-    again.with(|reach| reach.settle()).expect("a settling");
+    again.with(|reach| reach.transport()).expect("a transport");
     assert_eq!(again, record);
 }
 
@@ -165,13 +165,13 @@ fn a_balance_that_is_off_by_one_does_not_close() {
 }
 
 #[test]
-fn no_time_is_a_settling_alone() {
+fn no_time_is_a_transport_alone() {
     let sheet = flowing().draft_sheet();
     let answer = fed(&["run", "-", "--for", "0", "--out", "-"], &sheet);
     assert_eq!(answer.status, 0);
     assert_eq!(answer.bytes, sheet);
     assert!(
-        answer.errors.contains("0 steps, 1 settling "),
+        answer.errors.contains("0 steps, 1 transport "),
         "{}",
         answer.errors
     );
@@ -211,7 +211,7 @@ fn a_step_too_long_is_refused_with_its_place_and_nothing_is_written() {
 #[test]
 fn a_reach_that_overflows_stops_where_it_does() {
     let mut record = Record::new(1);
-    record.ends[0] = Boundary::fed(4_000_000, 32_000_000_000, 0);
+    record.boundaries[0] = Boundary::fed(4_000_000, 32_000_000_000, 0);
     let answer = fed(&["run", "-", "--for", "1h"], &record.draft_sheet());
     assert_eq!(answer.status, 1);
     assert!(answer.errors.contains("refused 12: "), "{}", answer.errors);
@@ -240,7 +240,7 @@ fn the_cell_that_overflows_is_not_the_deepest_before() {
 fn a_full_reach_that_is_fed_names_no_cell() {
     let mut record = Record::new(3);
     record.depth.fill(4_000_000);
-    record.ends[1] = Boundary::fed(4_000_000, -32_000_000_000, 0);
+    record.boundaries[1] = Boundary::fed(4_000_000, -32_000_000_000, 0);
     let answer = fed(&["run", "-", "--for", "1h"], &record.draft_sheet());
     assert_eq!(answer.status, 1);
     let words =

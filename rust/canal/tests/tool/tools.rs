@@ -90,7 +90,7 @@ impl Dice {
         self.to(2 * most) as i64 - most as i64
     }
 
-    pub fn end(&mut self) -> Boundary {
+    pub fn boundary(&mut self) -> Boundary {
         match self.to(2) {
             0 => Boundary::WALL,
             1 => Boundary::open(self.to(500_000)),
@@ -106,7 +106,7 @@ impl Dice {
         let cells = 1 + self.to(most_cells - 1) as usize;
         let mut record = Record::new(cells);
         record.cell_length = 100 + self.to(99_900);
-        record.ends = [self.end(), self.end()];
+        record.boundaries = [self.boundary(), self.boundary()];
         for i in 0..cells {
             let depth = if self.to(4) == 0 {
                 0

@@ -1,7 +1,7 @@
 //! A season of steps on both implementations, every call compared: a small reach for a long time, the longest reach for a shorter one, then the
 //! same with the record damaged between calls, as memory in the field may be. Optional: it takes minutes.
 
-use agreement::both::{broken, same, settled, Call, WALL};
+use agreement::both::{broken, fresh, same, Call, WALL};
 use reference::random::{Random, Record};
 use reference::record::{End, FED, OPEN};
 use std::collections::BTreeMap;
@@ -11,7 +11,8 @@ use std::time::Instant;
 #[derive(Default)]
 struct Season {
     calls: u64,
-    settlings: u64,
+    /// steps with a transport before them
+    transports: u64,
     /// calls by number of refusal, 0 for accepted
     numbers: BTreeMap<u32, u64>,
 }
@@ -20,7 +21,7 @@ impl Season {
     fn call(&mut self, call: Call, record: &mut Record) -> u32 {
         let answer = same(call, record);
         self.calls += 1;
-        self.settlings += u64::from(answer.settled);
+        self.transports += u64::from(answer.transported);
         *self.numbers.entry(answer.refusal).or_default() += 1;
         answer.refusal
     }
@@ -36,7 +37,7 @@ fn canal(r: &mut Random, cells: usize) -> Record {
         })
         .collect();
     let tail = End { kind: OPEN, ..WALL };
-    settled(5_000, [head(r), tail], &list)
+    fresh(5_000, [head(r), tail], &list)
 }
 
 /// The head as the gate and the dose stand: a little deeper or shallower, faster or slower, richer or poorer.
@@ -60,24 +61,24 @@ fn season(cells: usize, steps: u64, damage: bool) {
     let begun = Instant::now();
     for k in 0..steps {
         if k % 1_000 == 999 {
-            let ends = [head(&mut r), record.ends[1]];
-            assert_eq!(season.call(Call::SetEnds(ends), &mut record), 0);
+            let new = [head(&mut r), record.ends[1]];
+            assert_eq!(season.call(Call::SetBoundaries(new), &mut record), 0);
         }
         if damage && k % 100 == 50 {
             for mut b in broken(&mut r, &record) {
-                let call = r.pick(&[Call::Step(1), Call::Settle, Call::Greatest]);
+                let call = r.pick(&[Call::Step(1), Call::Transport, Call::Greatest]);
                 assert_eq!(season.call(call, &mut b.record), b.ground);
             }
         }
         let t = agreement::calls::greatest_step(&record).t.into();
         assert_eq!(season.call(Call::Step(t), &mut record), 0);
     }
-    assert_eq!(season.call(Call::Settle, &mut record), 0);
+    assert_eq!(season.call(Call::Transport, &mut record), 0);
     println!(
-        "{cells} cells, {steps} steps, {}: {} calls agree, {} steps settled first; calls by number {:?}; {:?}; {} s",
+        "{cells} cells, {steps} steps, {}: {} calls agree, {} steps with a transport first; calls by number {:?}; {:?}; {} s",
         if damage { "damaged between calls" } else { "undamaged" },
         season.calls,
-        season.settlings,
+        season.transports,
         season.numbers,
         record.book,
         begun.elapsed().as_secs()
