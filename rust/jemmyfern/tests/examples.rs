@@ -7,7 +7,7 @@ use std::fmt::Write;
 use std::path::PathBuf;
 use std::process::Command;
 
-const HOUR_MS: u32 = 3_600_000;
+const HOUR_MS: u64 = 3_600_000;
 
 /// The hour of examples/controller.c on the second implementation, which has the paper's words: the text and the sheet.
 fn expected(sheet: &[u8], cells: usize) -> (String, Vec<u8>) {

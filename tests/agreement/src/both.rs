@@ -1,7 +1,7 @@
 //! A call made on both implementations, and the records to make it on: sound, with a full ledger, and broken in each way.
 
 use crate::calls;
-use reference::random::{damage_record, Random, Record};
+use reference::random::{damage_record, totals_mut, Random, Record};
 use reference::record::{Answer, Book, Columns, End, DEEPEST, MOST_TOTAL};
 use reference::{GreatestAnswer, OpenAnswer, StepAnswer};
 
@@ -23,7 +23,7 @@ pub struct Outcome {
     /// a transport came before the step
     pub transported: bool,
     /// the greatest step and its place
-    pub greatest: [u32; 2],
+    pub greatest: (u64, usize),
 }
 
 impl From<Answer> for Outcome {
@@ -43,7 +43,7 @@ impl From<GreatestAnswer> for Outcome {
             refusal: a.refusal,
             boundaries: a.ends,
             ledger: a.book,
-            greatest: [a.t, a.place],
+            greatest: (a.t, a.place),
             ..Outcome::default()
         }
     }
@@ -81,16 +81,14 @@ impl Call {
         }
     }
 
-    /// The call on the second implementation. It takes t in 32 bits: 1,001 stands for every t beyond them.
+    /// The call on the second implementation.
     pub fn theirs(self, r: &mut Record) -> Outcome {
         let (c, x, ends, book) = (&mut r.columns, r.x, r.ends, r.book);
         match self {
             Call::Transport => reference::settle(c, x, ends, book).into(),
             Call::SetBoundaries(new) => reference::set_ends(c, x, ends, book, new).into(),
             Call::Greatest => reference::greatest_step(c, x, ends, book).into(),
-            Call::Step(t) => {
-                reference::step(c, x, ends, book, t.try_into().unwrap_or(1_001)).into()
-            }
+            Call::Step(t) => reference::step(c, x, ends, book, t).into(),
         }
     }
 }
@@ -143,6 +141,27 @@ pub fn same_opening(sheet: &[u8], lent: &Columns) -> Result<Record, u32> {
     Err(refusal)
 }
 
+/// Writes on both implementations into outputs that came alike: the answers and all bytes are the same, boundaries and ledger are handed
+/// back as they came, and a refused write leaves the output as it came. Gives the number and the output.
+pub fn same_writing(record: &Record, came: &[u8]) -> (u32, Vec<u8>) {
+    let (mut out, mut theirs) = (came.to_vec(), came.to_vec());
+    let answer = calls::write(record, &mut out);
+    let Record {
+        columns,
+        x,
+        ends,
+        book,
+    } = record;
+    let expected = reference::write(columns, *x, *ends, *book, &mut theirs);
+    assert_eq!(answer, expected, "{record:?}");
+    assert_eq!(out, theirs, "{record:?}");
+    assert_eq!((answer.ends, answer.book), (*ends, *book), "{record:?}");
+    if answer.refusal != 0 {
+        assert_eq!(out, came, "a refused write of {record:?}");
+    }
+    (answer.refusal, out)
+}
+
 pub const WALL: End = End {
     kind: 0,
     depth: 0,
@@ -152,7 +171,7 @@ pub const WALL: End = End {
 };
 
 /// A record as an opening makes it, with nothing carried and an empty ledger; a cell is its bed level, depth, discharge and mass.
-pub fn fresh(x: u32, boundaries: [End; 2], cells: &[(i64, u64, i64, u64)]) -> Record {
+pub fn fresh(x: u64, boundaries: [End; 2], cells: &[(i64, u64, i64, u64)]) -> Record {
     let mut columns = Columns::of_cells(cells.len());
     for (i, &(z, h, q, m)) in cells.iter().enumerate() {
         columns.bed[i] = z;
@@ -194,16 +213,13 @@ pub fn greatest(record: &Record) -> u64 {
         ends,
         book,
     } = record;
-    reference::greatest_step(columns, *x, *ends, *book).t.into()
+    reference::greatest_step(columns, *x, *ends, *book).t
 }
 
 /// Every total at its limit: whatever a call adds is ground 13.
 pub fn fill_ledger(record: &mut Record) {
-    for side in [&mut record.book.left, &mut record.book.right] {
-        side.water_in = MOST_TOTAL;
-        side.water_out = MOST_TOTAL;
-        side.nutrient_in = MOST_TOTAL;
-        side.nutrient_out = MOST_TOTAL;
+    for total in totals_mut(&mut record.book) {
+        *total = MOST_TOTAL;
     }
 }
 

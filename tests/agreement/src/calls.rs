@@ -209,18 +209,17 @@ fn boundary(e: End) -> Boundary {
     Boundary {
         kind: e.kind,
         reserved: e.zero,
-        depth: e.depth.into(),
-        concentration: e.concentration.into(),
+        depth: e.depth,
+        concentration: e.concentration,
         discharge: e.discharge,
     }
 }
 
-/// Every boundary that these tests hand in fits 32 bits, and a call hands back one of those.
 fn end(b: Boundary) -> End {
     End {
         kind: b.kind,
-        depth: b.depth.try_into().expect("a boundary as it came"),
-        concentration: b.concentration.try_into().expect("a boundary as it came"),
+        depth: b.depth,
+        concentration: b.concentration,
         zero: b.reserved,
         discharge: b.discharge,
     }
@@ -286,7 +285,7 @@ macro_rules! call {
                 nutrient.$slice(), nutrient.len(),
                 base.$slice(), base.len(),
                 carried.$slice(), carried.len(),
-                (*x).into(), boundaries(*ends), ledger(*book) $(, $more)*
+                *x, boundaries(*ends), ledger(*book) $(, $more)*
             )
         }
     }};
@@ -312,8 +311,8 @@ pub fn greatest_step(r: &Record) -> GreatestAnswer {
         refusal: g.refusal,
         ends: g.boundaries.map(end),
         book: book(g.ledger),
-        t: g.time.try_into().expect("a time step"),
-        place: g.place.try_into().expect("a place"),
+        t: g.time,
+        place: g.place,
     }
 }
 
@@ -366,7 +365,7 @@ macro_rules! lend {
 fn opened(o: RawOpened) -> OpenAnswer {
     OpenAnswer {
         refusal: o.refusal,
-        x: o.cell_length.try_into().expect("a cell length"),
+        x: o.cell_length,
         ends: o.boundaries.map(end),
         book: book(o.ledger),
     }

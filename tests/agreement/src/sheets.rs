@@ -5,7 +5,7 @@ use reference::record::{
     Book, Columns, End, BED_LIMIT, DEEPEST, FASTEST, FED, LEAST_X, MOST_CELLS, MOST_X, OPEN,
     RICHEST, WALL,
 };
-use reference::sheet::{sheet_length, HEADER};
+use reference::sheet::{field, sheet_length, signed_field, HEADER};
 
 /// Header places.
 const EDITION: usize = 0;
@@ -17,6 +17,8 @@ const BOUNDARIES: usize = 32;
 const PER_BOUNDARY: usize = 24;
 /// Bytes of an entry: bed level, depth, discharge, mass.
 const SIZES: [usize; 4] = [4, 4, 8, 8];
+/// The greatest value of a field of 32 bits.
+const MOST_FIELD: u64 = u32::MAX as u64;
 
 /// A sheet and the columns lent for it.
 #[derive(Clone, Debug)]
@@ -297,8 +299,8 @@ fn lendings(opening: &Opening) -> Vec<Vec<Change>> {
 
 /// Ground 5: X.
 fn cell_lengths() -> Vec<Vec<Change>> {
-    [0, LEAST_X - 1, MOST_X + 1, LEAST_X + (1 << 24), u32::MAX]
-        .map(|x| vec![words(CELL_LENGTH, &[x])])
+    [0, LEAST_X - 1, MOST_X + 1, LEAST_X + (1 << 24), MOST_FIELD]
+        .map(|x| vec![words(CELL_LENGTH, &[field(x)])])
         .to_vec()
 }
 
@@ -315,7 +317,10 @@ fn boundaries(r: &mut Random) -> Vec<Vec<Change>> {
 fn put_boundary(side: usize, b: &End) -> Vec<Change> {
     let at = BOUNDARIES + PER_BOUNDARY * side;
     vec![
-        words(at, &[b.kind, b.depth, b.concentration, b.zero]),
+        words(
+            at,
+            &[b.kind, field(b.depth), field(b.concentration), b.zero],
+        ),
         long(at + 16, b.discharge as u64),
     ]
 }
@@ -326,10 +331,9 @@ fn bad_boundaries(r: &mut Random, kind: u32) -> Vec<End> {
     let mut list = Vec::new();
     list.extend([1, 1 << 31].map(|zero| End { zero, ..sound }));
     list.extend([3, kind + 256, kind + (1 << 16), u32::MAX].map(|kind| End { kind, ..sound }));
-    let richest = RICHEST as u32;
-    let rich: [u32; 3] = match kind {
-        WALL => [1, richest, 1 << 24],
-        _ => [richest + 1, 1 << 31, u32::MAX],
+    let rich = match kind {
+        WALL => [1, RICHEST, 1 << 24],
+        _ => [RICHEST + 1, 1 << 31, MOST_FIELD],
     };
     list.extend(rich.map(|concentration| End {
         concentration,
@@ -344,7 +348,7 @@ fn bad_boundaries(r: &mut Random, kind: u32) -> Vec<End> {
 
 /// A wall or an open boundary with a depth or a discharge.
 fn bad_stills(sound: End) -> Vec<End> {
-    let depths = [1, DEEPEST as u32, 1 << 24].map(|depth| End { depth, ..sound });
+    let depths = [1, DEEPEST, 1 << 24].map(|depth| End { depth, ..sound });
     let discharges = [1, -1, 1 << 32, i64::MIN].map(|discharge| End { discharge, ..sound });
     [depths.to_vec(), discharges.to_vec()].concat()
 }
@@ -352,13 +356,13 @@ fn bad_stills(sound: End) -> Vec<End> {
 /// A fed boundary too shallow, too deep or too fast.
 fn bad_feeds(sound: End) -> Vec<End> {
     let mut list = Vec::new();
-    list.extend([0, DEEPEST as u32 + 1, 1 << 31, u32::MAX].map(|depth| End {
+    list.extend([0, DEEPEST + 1, 1 << 31, MOST_FIELD].map(|depth| End {
         depth,
         discharge: 0,
         ..sound
     }));
-    for depth in [1, sound.depth, DEEPEST as u32] {
-        let over = over_fastest(depth.into());
+    for depth in [1, sound.depth, DEEPEST] {
+        let over = over_fastest(depth);
         list.extend([over, -over, i64::MAX, i64::MIN].map(|discharge| End {
             depth,
             discharge,
@@ -384,12 +388,12 @@ fn bad_cell(opening: &Opening, cell: usize) -> Vec<Vec<Change>> {
     let place = |column: usize| opening.place(column, cell);
     let depth = opening.record.columns.depth[cell];
     let mut list = Vec::new();
-    let (high, low) = (BED_LIMIT as i32 + 1, -BED_LIMIT as i32 - 1);
+    let (high, low) = (signed_field(BED_LIMIT + 1), signed_field(-BED_LIMIT - 1));
     for bed in [high, low, i32::MAX, i32::MIN] {
         list.push(vec![words(place(0), &[bed as u32])]);
     }
-    for deep in [DEEPEST as u32 + 1, 1 << 31, u32::MAX] {
-        list.push(vec![words(place(1), &[deep])]);
+    for deep in [DEEPEST + 1, 1 << 31, MOST_FIELD] {
+        list.push(vec![words(place(1), &[field(deep)])]);
     }
     let over = over_fastest(depth);
     for discharge in [over, -over, i64::MAX, i64::MIN] {

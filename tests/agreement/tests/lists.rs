@@ -30,8 +30,8 @@ fn boundary_words(e: &End) -> [u64; 5] {
     [
         e.kind.into(),
         e.zero.into(),
-        e.depth.into(),
-        e.concentration.into(),
+        e.depth,
+        e.concentration,
         e.discharge as u64,
     ]
 }
@@ -78,8 +78,7 @@ impl Theirs {
         let (c, x, ends, book) = (&mut r.columns, r.x, r.ends, r.book);
         match call {
             Call::Step(t) => {
-                let t = (*t).try_into().unwrap_or(1_001);
-                let a = reference::step(c, x, ends, book, t);
+                let a = reference::step(c, x, ends, book, *t);
                 (r.ends, r.book) = (a.ends, a.book);
                 [a.refusal.into(), a.settled.into(), 0, 0]
             }
@@ -96,7 +95,7 @@ impl Theirs {
             Call::Greatest => {
                 let a = reference::greatest_step(c, x, ends, book);
                 (r.ends, r.book) = (a.ends, a.book);
-                [a.refusal.into(), 0, a.t.into(), a.place.into()]
+                [a.refusal.into(), 0, a.t, a.place as u64]
             }
             Call::Write(room) => {
                 let room = (*room).min(self.out.len());
@@ -145,7 +144,7 @@ fn good(r: &mut Random, record: &Record, n: usize) -> Call {
         ends,
         book,
     } = record;
-    let most: u64 = reference::greatest_step(columns, *x, *ends, *book).t.into();
+    let most = reference::greatest_step(columns, *x, *ends, *book).t;
     match r.below(24) {
         0 | 1 => Call::Transport,
         2 | 3 => Call::SetBoundaries([end(r), end(r)]),
@@ -167,13 +166,18 @@ fn bad(r: &mut Random, record: &Record, n: usize) -> Call {
         1 => {
             let mut new = [end(r), end(r)];
             let side = r.below(2) as usize;
-            damage_end(r, &mut new[side]);
+            match r.below(6) {
+                // as it was, if it were cut to 32 bits
+                0 => new[side].depth += 1 << 32,
+                1 => new[side].concentration += 1 << 32,
+                _ => damage_end(r, &mut new[side]),
+            }
             Call::SetBoundaries(new)
         }
         2 => Call::Write(r.below(sheet_length(n) as u64) as usize),
         3 if carrying => Call::Write(sheet_length(n)),
         4 => Call::Step(1_000 - r.below(2)),
-        _ => Call::Step(r.pick(&[0, 1_001, 1 << 32, u64::MAX])),
+        _ => Call::Step(r.pick(&[0, 1_001, 1 << 32, (1 << 32) + 1, u64::MAX])),
     }
 }
 

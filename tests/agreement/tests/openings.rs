@@ -143,9 +143,9 @@ fn values_at_their_limits_open() {
     ];
     let fed = |depth: u64, velocity: i64, concentration: u64| End {
         kind: FED,
-        depth: depth as u32,
+        depth,
         discharge: velocity * depth as i64,
-        concentration: concentration as u32,
+        concentration,
         ..WALL
     };
     let (right, left) = (FASTEST as i64, -(FASTEST as i64));

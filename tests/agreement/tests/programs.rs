@@ -6,7 +6,7 @@ use agreement::calls;
 use agreement::sheets::{damages, several, turn_bits, Opening};
 use reference::random::{cell_count, sheet_of, Random, Record, COLUMN_ORDERS};
 use reference::record::{DEEPEST, FASTEST, MOST_CELLS, RICHEST};
-use reference::sheet::sheet_length;
+use reference::sheet::{field, sheet_length};
 use std::collections::{BTreeMap, BTreeSet};
 
 /// The longest input that is looked at.
@@ -108,7 +108,7 @@ fn count(r: &mut Random, n: usize) -> u32 {
 
 /// Small, about the greatest step, and out of range.
 fn time(r: &mut Random, record: &Record) -> u32 {
-    let most = greatest(record) as u32;
+    let most = field(greatest(record));
     match r.below(20) {
         0 => r.pick(&[0, 1_001, 65_537, u32::MAX]),
         1 => most + 1,

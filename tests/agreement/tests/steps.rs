@@ -356,7 +356,7 @@ fn longest_step_at_one_metre() {
 }
 
 /// Water at rest between walls with its surface at 0; where the bed is above it the reach is dry.
-fn level(x: u32, bed: impl Iterator<Item = i64>) -> Record {
+fn level(x: u64, bed: impl Iterator<Item = i64>) -> Record {
     let cells: Vec<_> = bed
         .map(|z| (z, (-z).max(0) as u64))
         .map(|(z, h)| (z, h, 0, 7 * h))
@@ -375,7 +375,7 @@ fn stays_still(still: &Record) {
             book: still.book,
             settled: false,
         };
-        assert_eq!(calls::step(&mut record, t.into()), expected);
+        assert_eq!(calls::step(&mut record, t), expected);
         assert_eq!(record, *still);
     }
 }
@@ -431,7 +431,7 @@ fn the_ledger_accounts_for_water_and_mass() {
         let opening = held_and_passed(&record);
         let opened = totals(&record.book);
         for _ in 0..2_000 {
-            let call = any_call(&mut r, calls::greatest_step(&record).t.into());
+            let call = any_call(&mut r, calls::greatest_step(&record).t);
             let answer = call.ours(&mut record);
             (record.ends, record.book) = (answer.boundaries, answer.ledger);
             assert_eq!(held_and_passed(&record), opening, "{call:?}");

@@ -1,8 +1,7 @@
 //! Writing against the second implementation: the answer and every byte of the output, after refusals as well. Then the round trip: what was
 //! written opens as the record, and a sheet in the writer's order is written again byte for byte.
 
-use agreement::both::{broken, same_opening, Broken};
-use agreement::calls;
+use agreement::both::{broken, same_opening, same_writing, Broken};
 use agreement::sheets::{lent, Opening};
 use reference::random::{cell_count, kinds, record_of, Random, Record, COLUMN_ORDERS};
 use reference::record::{Book, MOST_CELLS};
@@ -12,27 +11,6 @@ use std::collections::{BTreeMap, BTreeSet};
 /// An output of this many bytes, none of them a likely one.
 fn output(r: &mut Random, bytes: usize) -> Vec<u8> {
     (0..bytes).map(|_| r.below(256) as u8).collect()
-}
-
-/// Writes on both implementations into outputs that came alike: the answers and all bytes are the same, boundaries and ledger are handed
-/// back as they came, and a refused write leaves the output as it came. Gives the number and the output.
-fn same_writing(record: &Record, came: &[u8]) -> (u32, Vec<u8>) {
-    let (mut out, mut theirs) = (came.to_vec(), came.to_vec());
-    let answer = calls::write(record, &mut out);
-    let Record {
-        columns,
-        x,
-        ends,
-        book,
-    } = record;
-    let expected = reference::write(columns, *x, *ends, *book, &mut theirs);
-    assert_eq!(answer, expected, "{record:?}");
-    assert_eq!(out, theirs, "{record:?}");
-    assert_eq!((answer.ends, answer.book), (*ends, *book), "{record:?}");
-    if answer.refusal != 0 {
-        assert_eq!(out, came, "a refused write of {record:?}");
-    }
-    (answer.refusal, out)
 }
 
 /// A record of n cells with nothing carried; one time in two it has a ledger.

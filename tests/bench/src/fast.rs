@@ -38,7 +38,7 @@ struct Crossing {
 }
 
 #[inline(never)]
-pub fn step(c: &mut Columns, x: u32, boundaries: [End; 2], ledger: Book, t: u32) -> StepAnswer {
+pub fn step(c: &mut Columns, x: u64, boundaries: [End; 2], ledger: Book, t: u64) -> StepAnswer {
     match try_step(c, x, &boundaries, &ledger, t) {
         Ok((ledger, transported)) => StepAnswer {
             refusal: 0,
@@ -58,14 +58,13 @@ pub fn step(c: &mut Columns, x: u32, boundaries: [End; 2], ledger: Book, t: u32)
 #[inline]
 fn try_step(
     c: &mut Columns,
-    x: u32,
+    x: u64,
     boundaries: &[End; 2],
     ledger: &Book,
-    t: u32,
+    t: u64,
 ) -> Result<(Book, bool), u32> {
     let n = check(c, x, boundaries, ledger)?;
     ground(10, (1..=MOST_T).contains(&t))?;
-    let (t, x) = (u64::from(t), u64::from(x));
     let found = find(c, n, boundaries, t, x);
     ground(11, t * found.reach <= 1_000 * x)?;
     ground(12, found.deepest <= DEEPEST as i64)?;
@@ -79,7 +78,7 @@ fn try_step(
 
 /// Grounds 4 to 9, the cells in one pass. Where a value is out of range what follows may wrap, and is not looked at.
 #[inline]
-fn check(c: &Columns, x: u32, boundaries: &[End; 2], ledger: &Book) -> Result<usize, u32> {
+fn check(c: &Columns, x: u64, boundaries: &[End; 2], ledger: &Book) -> Result<usize, u32> {
     let n = c.bed.len();
     ground(4, (1..=MOST_CELLS).contains(&n) && c.fit(n))?;
     ground(5, length_sound(x))?;
@@ -124,7 +123,7 @@ fn beyond(boundary: &End, cell: Water) -> Water {
             speed: -cell.speed,
             ..cell
         },
-        FED => Water::new(cell.bed, u64::from(boundary.depth), boundary.discharge),
+        FED => Water::new(cell.bed, boundary.depth, boundary.discharge),
         _ => cell,
     }
 }
@@ -251,7 +250,7 @@ fn gain(
 fn transport(c: &mut Columns, n: usize, boundaries: &[End; 2]) {
     let (mass, base) = (&mut c.nutrient[..n], &mut c.base[..n]);
     let (depth, carried) = (&c.depth[..n], &mut c.carried[..n + 1]);
-    let mut from_left = carried[0].max(0) as u64 * u64::from(boundaries[0].concentration);
+    let mut from_left = carried[0].max(0) as u64 * boundaries[0].concentration;
     let mut stays = 0;
     for i in 0..n {
         let leaving = shares(mass[i], base[i], carried[i], carried[i + 1]);
@@ -263,7 +262,7 @@ fn transport(c: &mut Columns, n: usize, boundaries: &[End; 2]) {
         from_left = leaving.right;
         base[i] = depth[i];
     }
-    mass[n - 1] = stays + (-carried[n]).max(0) as u64 * u64::from(boundaries[1].concentration);
+    mass[n - 1] = stays + (-carried[n]).max(0) as u64 * boundaries[1].concentration;
     carried.fill(0);
 }
 

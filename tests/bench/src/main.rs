@@ -11,6 +11,7 @@ use reference::random::{
     any_record, end_of_kind, record_of, sheet_of, Random, Record, COLUMN_ORDERS,
 };
 use reference::record::{FED, OPEN};
+use reference::sheet::field;
 use reference::{Book, Columns};
 use std::hint::black_box;
 use std::time::Instant;
@@ -99,7 +100,7 @@ fn compare_greatest(r: &mut Random, cells: usize) {
 /// A step about to be made.
 struct Planned {
     record: Record,
-    t: u32,
+    t: u64,
 }
 
 /// A gentle flow of 0.5 to 1.5 m/s in water 1 to 2 m deep, cells of 10 m, fed at the left and open at the right. The bed falls by
@@ -116,7 +117,7 @@ fn flow(r: &mut Random, cells: usize, slope: i64) -> Record {
         columns.nutrient[i] = r.below(500_000) * h as u64;
     }
     let mut boundaries = [FED, OPEN].map(|kind| end_of_kind(r, kind));
-    boundaries[0].depth = depth as u32;
+    boundaries[0].depth = depth as u64;
     boundaries[0].discharge = depth * velocity;
     Record {
         columns,
@@ -169,7 +170,7 @@ fn compare_step(name: &str, list: &[Planned]) -> f64 {
         |i| {
             let mut record = scratch.borrow_mut();
             record.clone_from(&list[i].record);
-            agreement::calls::step(&mut record, list[i].t.into())
+            agreement::calls::step(&mut record, list[i].t)
         },
         |i| {
             let mut record = scratch.borrow_mut();
@@ -211,7 +212,7 @@ fn compare_program(r: &mut Random) {
     let mut input = sheet_of(&now, COLUMN_ORDERS[0]);
     let t = reference::greatest_step(&now.columns, now.x, now.ends, now.book).t / 2;
     input.extend(1_000u32.to_le_bytes());
-    input.extend(t.to_le_bytes());
+    input.extend(field(t).to_le_bytes());
     assert_eq!(
         reference::program(&input).as_bytes(),
         agreement::calls::program(&input)
@@ -230,8 +231,8 @@ fn fast_step_agrees(r: &mut Random) {
     for _ in 0..2_000 {
         let sound = any_record(r);
         let most = reference::greatest_step(&sound.columns, sound.x, sound.ends, sound.book).t;
-        let any = r.between(0, 1_001) as u32;
-        let mut list: Vec<(Record, u32)> = [most, most + 1, any].map(|t| (sound.clone(), t)).into();
+        let any = r.below(1_002);
+        let mut list: Vec<(Record, u64)> = [most, most + 1, any].map(|t| (sound.clone(), t)).into();
         list.extend(broken(r, &sound).into_iter().map(|b| (b.record, most)));
         for (record, t) in list {
             let mut fast = record.clone();

@@ -10,13 +10,13 @@ pub struct GreatestAnswer {
     pub ends: [End; 2],
     pub book: Book,
     /// ms
-    pub t: u32,
+    pub t: u64,
     /// 0 left end, 1..n the cells, n+1 right end
-    pub place: u32,
+    pub place: usize,
 }
 
 /// "the greatest t in 1..1,000 that meets CFL, and the place of the greatest |u|+a"
-pub fn greatest_step(c: &Columns, x: u32, ends: [End; 2], book: Book) -> GreatestAnswer {
+pub fn greatest_step(c: &Columns, x: u64, ends: [End; 2], book: Book) -> GreatestAnswer {
     let mut answer = GreatestAnswer {
         refusal: 0,
         ends,
@@ -36,7 +36,7 @@ pub fn greatest_step(c: &Columns, x: u32, ends: [End; 2], book: Book) -> Greates
         // "among equals the lowest place"
         if reach > fastest {
             fastest = reach;
-            answer.place = place as u32;
+            answer.place = place;
         }
     };
     for i in 0..n {
@@ -44,8 +44,8 @@ pub fn greatest_step(c: &Columns, x: u32, ends: [End; 2], book: Book) -> Greates
     }
     look(n + 1, end_reach(&ends[1]));
     // |u|+a ≤ 8,000+7,670 and 1,000·X ≥ 100,000: t = 1 always meets CFL
-    answer.t = match (1_000 * u64::from(x)).checked_div(fastest) {
-        Some(most) => most.min(u64::from(MOST_T)) as u32,
+    answer.t = match (1_000 * x).checked_div(fastest) {
+        Some(most) => most.min(MOST_T),
         None => MOST_T,
     };
     answer
@@ -54,7 +54,7 @@ pub fn greatest_step(c: &Columns, x: u32, ends: [End; 2], book: Book) -> Greates
 /// "an end that is not fed counts as 0"
 fn end_reach(end: &End) -> u64 {
     if end.kind == FED {
-        Water::new(0, u64::from(end.depth), end.discharge).reach()
+        Water::new(0, end.depth, end.discharge).reach()
     } else {
         0
     }

@@ -29,7 +29,7 @@ fn run(input: &[u8]) -> Result<(Columns, Book), u32> {
     }
     let (sheet, trailer) = input.split_at(sheet_bytes);
     let word = |at: usize| u32::from_le_bytes([0, 1, 2, 3].map(|k| trailer[at + k]));
-    let (count, t) = (word(0), word(4));
+    let (count, t) = (word(0), u64::from(word(4)));
 
     // columns lent for the n that the sheet's bytes hold; another n is ground 1 or 2
     let n = sheet.len().saturating_sub(HEADER) / PER_CELL;

@@ -51,7 +51,7 @@ impl Random {
 #[derive(Clone, Debug, PartialEq, Eq, Default)]
 pub struct Record {
     pub columns: Columns,
-    pub x: u32,
+    pub x: u64,
     pub ends: [End; 2],
     pub book: Book,
 }
@@ -191,12 +191,12 @@ fn nutrient(r: &mut Random, style: &Style, b: u64) -> u64 {
     }
 }
 
-fn cell_length(r: &mut Random) -> u32 {
+fn cell_length(r: &mut Random) -> u64 {
     match r.below(6) {
         0 => LEAST_X,
         1 => MOST_X,
         2 => 1_000,
-        _ => r.between(i64::from(LEAST_X), i64::from(MOST_X)) as u32,
+        _ => LEAST_X + r.below(MOST_X - LEAST_X + 1),
     }
 }
 
@@ -218,11 +218,11 @@ fn end_like(r: &mut Random, kind: u32, style: &Style) -> End {
     };
     if kind != WALL {
         let any = r.below(RICHEST + 1);
-        end.concentration = r.pick(&[0, RICHEST, style.concentration, any]) as u32;
+        end.concentration = r.pick(&[0, RICHEST, style.concentration, any]);
     }
     if kind == FED {
-        end.depth = depth(r, style).max(1) as u32;
-        end.discharge = discharge(r, style, i64::from(end.depth));
+        end.depth = depth(r, style).max(1);
+        end.discharge = discharge(r, style, end.depth as i64);
     }
     end
 }
@@ -242,6 +242,21 @@ fn book(r: &mut Random) -> Book {
         }
     }
     book_from(totals)
+}
+
+/// The totals in the order of `book_from`.
+pub fn totals_mut(book: &mut Book) -> [&mut u64; 8] {
+    let Book { left, right } = book;
+    [
+        &mut left.water_in,
+        &mut left.water_out,
+        &mut left.nutrient_in,
+        &mut left.nutrient_out,
+        &mut right.water_in,
+        &mut right.water_out,
+        &mut right.nutrient_in,
+        &mut right.nutrient_out,
+    ]
 }
 
 /// Left, then right, each in the order of `Totals`.

@@ -3,8 +3,8 @@
 /// n is 1..512
 pub const MOST_CELLS: usize = 512;
 /// X is 100..100,000 mm
-pub const LEAST_X: u32 = 100;
-pub const MOST_X: u32 = 100_000;
+pub const LEAST_X: u64 = 100;
+pub const MOST_X: u64 = 100_000;
 /// bed level −100,000,000..100,000,000 µm
 pub const BED_LIMIT: i64 = 100_000_000;
 /// depth, base depth and |carried water| at most 4,000,000 µm
@@ -26,9 +26,9 @@ pub struct End {
     /// 0 wall, 1 open, 2 fed
     pub kind: u32,
     /// µm
-    pub depth: u32,
+    pub depth: u64,
     /// µg/l
-    pub concentration: u32,
+    pub concentration: u64,
     /// always 0
     pub zero: u32,
     /// µm·mm/s
@@ -145,7 +145,7 @@ pub fn ground(number: u32, kept: bool) -> Result<(), u32> {
 /// Grounds 4 to 9 in checking order; gives n. `given` are ends newly given to an end setting.
 pub fn check(
     c: &Columns,
-    x: u32,
+    x: u64,
     ends: &[End; 2],
     given: &[End],
     book: &Book,
@@ -162,21 +162,21 @@ pub fn check(
 }
 
 /// 5: "X is out of range."
-pub fn length_sound(x: u32) -> bool {
+pub fn length_sound(x: u64) -> bool {
     (LEAST_X..=MOST_X).contains(&x)
 }
 
 /// 6: "An end [...] breaks its kind, or its zero field is not 0."
 pub fn end_sound(e: &End) -> bool {
-    let depth = u64::from(e.depth);
-    let rich = u64::from(e.concentration) <= RICHEST;
+    let rich = e.concentration <= RICHEST;
     e.zero == 0
         && match e.kind {
-            WALL => depth == 0 && e.discharge == 0 && e.concentration == 0,
-            OPEN => depth == 0 && e.discharge == 0 && rich,
+            WALL => e.depth == 0 && e.discharge == 0 && e.concentration == 0,
+            OPEN => e.depth == 0 && e.discharge == 0 && rich,
+            // the depth comes first, so that its multiple cannot overflow
             FED => {
-                (1..=DEEPEST).contains(&depth)
-                    && e.discharge.unsigned_abs() <= FASTEST * depth
+                (1..=DEEPEST).contains(&e.depth)
+                    && e.discharge.unsigned_abs() <= FASTEST * e.depth
                     && rich
             }
             _ => false,

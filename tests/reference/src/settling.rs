@@ -34,7 +34,7 @@ fn shares_of(c: &Columns, i: usize) -> Shares {
 /// "Water entering at an end brings its amount times that end's concentration."
 /// At most 4·10^6 · 500,000 = 2·10^12 grains.
 fn entering(water: i64, end: &End) -> u64 {
-    water.max(0) as u64 * u64::from(end.concentration)
+    water.max(0) as u64 * end.concentration
 }
 
 /// What a settling with the present c and ends adds to the book.
@@ -72,18 +72,18 @@ pub fn move_shares(c: &mut Columns, ends: &[End; 2]) {
 }
 
 /// Settles; grounds 4 to 9 and 13.
-pub fn settle(c: &mut Columns, x: u32, ends: [End; 2], book: Book) -> Answer {
+pub fn settle(c: &mut Columns, x: u64, ends: [End; 2], book: Book) -> Answer {
     settle_then_hold(c, x, ends, book, &[], ends)
 }
 
 /// "Setting ends gives the new pair, left and right, and settles first under the old pair."
-pub fn set_ends(c: &mut Columns, x: u32, ends: [End; 2], book: Book, new_ends: [End; 2]) -> Answer {
+pub fn set_ends(c: &mut Columns, x: u64, ends: [End; 2], book: Book, new_ends: [End; 2]) -> Answer {
     settle_then_hold(c, x, ends, book, &new_ends, new_ends)
 }
 
 fn settle_then_hold(
     c: &mut Columns,
-    x: u32,
+    x: u64,
     ends: [End; 2],
     book: Book,
     given: &[End],

@@ -19,7 +19,7 @@ const SIZES: [usize; 4] = [4, 4, 8, 8];
 #[derive(Clone, Copy, Debug, PartialEq, Eq)]
 pub struct OpenAnswer {
     pub refusal: u32,
-    pub x: u32,
+    pub x: u64,
     pub ends: [End; 2],
     pub book: Book,
 }
@@ -39,7 +39,7 @@ pub fn sheet_length(n: usize) -> usize {
 /// A sheet that passed grounds 1 to 3.
 struct Layout {
     n: usize,
-    x: u32,
+    x: u64,
     offsets: [usize; 4],
     ends: [End; 2],
 }
@@ -87,7 +87,7 @@ fn check_sheet(sheet: &[u8], c: &Columns) -> Result<Layout, u32> {
 
     ground(4, c.bed.len() == n && c.fit(n))?;
 
-    let x = u32_at(sheet, 12);
+    let x = u64::from(u32_at(sheet, 12));
     ground(5, length_sound(x))?;
 
     let ends = [0, 1].map(|k| end_at(sheet, ENDS + PER_END * k));
@@ -132,8 +132,8 @@ fn cell_at(sheet: &[u8], offsets: &[usize; 4], i: usize) -> (i64, u64, i64, u64)
 fn end_at(sheet: &[u8], at: usize) -> End {
     End {
         kind: u32_at(sheet, at),
-        depth: u32_at(sheet, at + 4),
-        concentration: u32_at(sheet, at + 8),
+        depth: u32_at(sheet, at + 4).into(),
+        concentration: u32_at(sheet, at + 8).into(),
         zero: u32_at(sheet, at + 12),
         discharge: u64_at(sheet, at + 16) as i64,
     }
@@ -148,7 +148,7 @@ fn u64_at(sheet: &[u8], at: usize) -> u64 {
 }
 
 /// Writes the sheet of a settled record; bytes after the sheet keep their values.
-pub fn write(c: &Columns, x: u32, ends: [End; 2], book: Book, out: &mut [u8]) -> WriteAnswer {
+pub fn write(c: &Columns, x: u64, ends: [End; 2], book: Book, out: &mut [u8]) -> WriteAnswer {
     let refusal = match check_write(c, x, &ends, &book, out.len()) {
         Ok(n) => {
             fill_sheet(c, x, &ends, n, out);
@@ -165,7 +165,7 @@ pub fn write(c: &Columns, x: u32, ends: [End; 2], book: Book, out: &mut [u8]) ->
 
 fn check_write(
     c: &Columns,
-    x: u32,
+    x: u64,
     ends: &[End; 2],
     book: &Book,
     room: usize,
@@ -176,28 +176,39 @@ fn check_write(
     Ok(n)
 }
 
-fn fill_sheet(c: &Columns, x: u32, ends: &[End; 2], n: usize, out: &mut [u8]) {
+fn fill_sheet(c: &Columns, x: u64, ends: &[End; 2], n: usize, out: &mut [u8]) {
     // "the writer uses the order above"
     let offsets = [HEADER, HEADER + 4 * n, HEADER + 8 * n, HEADER + 16 * n];
-    let counts = [EDITION, sheet_length(n) as u32, n as u32, x];
+    let counts = [EDITION, sheet_length(n) as u32, n as u32, field(x)];
     fill(out, counts.map(u32::to_le_bytes));
     let starts = offsets.map(|offset| (offset as u32).to_le_bytes());
     fill(&mut out[OFFSETS..], starts);
     for (k, end) in ends.iter().enumerate() {
         let at = ENDS + PER_END * k;
-        let words = [end.kind, end.depth, end.concentration, end.zero];
+        let (depth, concentration) = (field(end.depth), field(end.concentration));
+        let words = [end.kind, depth, concentration, end.zero];
         fill(&mut out[at..], words.map(u32::to_le_bytes));
         fill(&mut out[at + 16..], [end.discharge.to_le_bytes()]);
     }
-    // a sound bed level fits i32 and a sound depth u32
-    let beds = c.bed.iter().map(|&z| (z as i32).to_le_bytes());
+    let beds = c.bed.iter().map(|&z| signed_field(z).to_le_bytes());
     fill(&mut out[offsets[0]..], beds);
-    let depths = c.depth.iter().map(|&h| (h as u32).to_le_bytes());
+    let depths = c.depth.iter().map(|&h| field(h).to_le_bytes());
     fill(&mut out[offsets[1]..], depths);
     let discharges = c.discharge.iter().map(|q| q.to_le_bytes());
     fill(&mut out[offsets[2]..], discharges);
     let nutrients = c.nutrient.iter().map(|m| m.to_le_bytes());
     fill(&mut out[offsets[3]..], nutrients);
+}
+
+/// A value in the 32 bits that a sheet has for it: never another value in its place.
+/// Grounds 5 to 7 hold those of a record far below 2^31.
+pub fn field(value: u64) -> u32 {
+    value.try_into().expect("32 bits")
+}
+
+/// As `field`, for a bed level.
+pub fn signed_field(value: i64) -> i32 {
+    value.try_into().expect("32 bits")
 }
 
 /// "Each column is filled from its own offset onward"

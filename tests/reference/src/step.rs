@@ -6,7 +6,7 @@ use crate::record::{
 };
 use crate::settling::{end_nutrient, move_shares};
 
-pub const MOST_T: u32 = 1_000;
+pub const MOST_T: u64 = 1_000;
 
 #[derive(Clone, Copy, Debug, PartialEq, Eq)]
 pub struct StepAnswer {
@@ -25,7 +25,7 @@ struct Plan {
 }
 
 /// One water step of t ms.
-pub fn step(c: &mut Columns, x: u32, ends: [End; 2], book: Book, t: u32) -> StepAnswer {
+pub fn step(c: &mut Columns, x: u64, ends: [End; 2], book: Book, t: u64) -> StepAnswer {
     match plan(c, x, &ends, &book, t) {
         Ok(plan) => {
             if plan.settles {
@@ -48,10 +48,9 @@ pub fn step(c: &mut Columns, x: u32, ends: [End; 2], book: Book, t: u32) -> Step
     }
 }
 
-fn plan(c: &Columns, x: u32, ends: &[End; 2], book: &Book, t: u32) -> Result<Plan, u32> {
+fn plan(c: &Columns, x: u64, ends: &[End; 2], book: &Book, t: u64) -> Result<Plan, u32> {
     let n = check(c, x, ends, &[], book)?;
     ground(10, (1..=MOST_T).contains(&t))?;
-    let (t, x) = (u64::from(t), u64::from(x));
 
     let cells = cell_waters(c);
     let beyond = [
@@ -101,7 +100,7 @@ fn end_water(end: &End, cell: Water) -> Water {
             speed: -cell.speed,
             ..cell
         },
-        FED => Water::new(cell.bed, u64::from(end.depth), end.discharge),
+        FED => Water::new(cell.bed, end.depth, end.discharge),
         _ => cell,
     }
 }

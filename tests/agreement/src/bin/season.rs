@@ -45,8 +45,8 @@ fn head(r: &mut Random) -> End {
     let depth = r.between(900_000, 1_100_000);
     End {
         kind: FED,
-        depth: depth as u32,
-        concentration: r.below(5_000) as u32,
+        depth: depth as u64,
+        concentration: r.below(5_000),
         zero: 0,
         discharge: r.between(-20, 400) * depth,
     }
@@ -70,7 +70,7 @@ fn season(cells: usize, steps: u64, damage: bool) {
                 assert_eq!(season.call(call, &mut b.record), b.ground);
             }
         }
-        let t = agreement::calls::greatest_step(&record).t.into();
+        let t = agreement::calls::greatest_step(&record).t;
         assert_eq!(season.call(Call::Step(t), &mut record), 0);
     }
     assert_eq!(season.call(Call::Transport, &mut record), 0);

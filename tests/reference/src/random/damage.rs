@@ -8,7 +8,7 @@ use crate::record::{LEAST_X, MOST_CELLS, MOST_X, OPEN, RICHEST, WALL};
 pub fn damage_record(r: &mut Random, record: &mut Record, ground: u32) {
     match ground {
         4 => damage_columns(r, &mut record.columns),
-        5 => record.x = r.pick(&[0, LEAST_X - 1, MOST_X + 1, u32::MAX]),
+        5 => record.x = r.pick(&[0, LEAST_X - 1, MOST_X + 1, LEAST_X + (1 << 32), u64::MAX]),
         6 => {
             let side = r.below(2) as usize;
             damage_end(r, &mut record.ends[side]);
@@ -42,18 +42,19 @@ pub fn damage_columns(r: &mut Random, c: &mut Columns) {
     }
 }
 
-/// Breaks a sound end (ground 6).
+/// Breaks a sound end (ground 6), by values that a sheet can hold.
 pub fn damage_end(r: &mut Random, end: &mut End) {
     let sign = r.pick(&[1, -1]);
+    let most = u32::MAX.into();
     match (r.below(5), end.kind) {
         (0, _) => end.kind = r.pick(&[3, 4, 1 << 16, u32::MAX]),
         (1, _) => end.zero = r.pick(&[1, 1 << 31, u32::MAX]),
-        (2, WALL) => end.concentration = r.pick(&[1, RICHEST as u32]),
-        (2, _) => end.concentration = r.pick(&[RICHEST as u32 + 1, u32::MAX]),
-        (3, FED) => end.depth = r.pick(&[0, DEEPEST as u32 + 1, u32::MAX]),
-        (3, _) => end.depth = r.pick(&[1, DEEPEST as u32, u32::MAX]),
+        (2, WALL) => end.concentration = r.pick(&[1, RICHEST]),
+        (2, _) => end.concentration = r.pick(&[RICHEST + 1, most]),
+        (3, FED) => end.depth = r.pick(&[0, DEEPEST + 1, most]),
+        (3, _) => end.depth = r.pick(&[1, DEEPEST, most]),
         (_, FED) => {
-            let over = (FASTEST * u64::from(end.depth)) as i64 + 1;
+            let over = (FASTEST * end.depth) as i64 + 1;
             end.discharge = r.pick(&[sign * over, i64::MAX, i64::MIN]);
         }
         _ => end.discharge = r.pick(&[sign, i64::MAX, i64::MIN]),

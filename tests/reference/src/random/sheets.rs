@@ -4,6 +4,7 @@ use super::{damage_end, kinds, record_of, Random, Record};
 use crate::record::{
     Columns, End, BED_LIMIT, DEEPEST, FASTEST, LEAST_X, MOST_CELLS, MOST_X, RICHEST,
 };
+use crate::sheet::{field, signed_field};
 
 /// All orders of the four columns; the first is the writer's.
 pub const COLUMN_ORDERS: [[usize; 4]; 24] = [
@@ -59,7 +60,8 @@ pub fn sheet_of(record: &Record, order: [usize; 4]) -> Vec<u8> {
         at += bytes[k].len() as u32;
     }
     let mut sheet = Vec::new();
-    for word in [1, 80 + 24 * n, n, record.x].iter().chain(&offsets) {
+    let counts = [1, 80 + 24 * n, n, field(record.x)];
+    for word in counts.iter().chain(&offsets) {
         sheet.extend(word.to_le_bytes());
     }
     for end in &record.ends {
@@ -75,11 +77,11 @@ fn column_bytes(c: &Columns) -> [Vec<u8>; 4] {
     [
         c.bed
             .iter()
-            .flat_map(|&z| (z as i32).to_le_bytes())
+            .flat_map(|&z| signed_field(z).to_le_bytes())
             .collect(),
         c.depth
             .iter()
-            .flat_map(|&h| (h as u32).to_le_bytes())
+            .flat_map(|&h| field(h).to_le_bytes())
             .collect(),
         c.discharge.iter().flat_map(|q| q.to_le_bytes()).collect(),
         c.nutrient.iter().flat_map(|m| m.to_le_bytes()).collect(),
@@ -87,7 +89,8 @@ fn column_bytes(c: &Columns) -> [Vec<u8>; 4] {
 }
 
 fn end_bytes(end: &End) -> Vec<u8> {
-    let words = [end.kind, end.depth, end.concentration, end.zero];
+    let (depth, concentration) = (field(end.depth), field(end.concentration));
+    let words = [end.kind, depth, concentration, end.zero];
     let mut bytes: Vec<u8> = words.iter().flat_map(|w| w.to_le_bytes()).collect();
     bytes.extend(end.discharge.to_le_bytes());
     bytes
@@ -102,8 +105,8 @@ pub fn damage_sheet(r: &mut Random, sheet: &mut Vec<u8>, ground: u32) {
         2 => damage_length(r, sheet),
         3 => damage_offset(r, sheet),
         5 => {
-            let x = r.pick(&[0, LEAST_X - 1, MOST_X + 1, u32::MAX]);
-            put(sheet, CELL_LENGTH, &x.to_le_bytes());
+            let x = r.pick(&[0, LEAST_X - 1, MOST_X + 1, u32::MAX.into()]);
+            put(sheet, CELL_LENGTH, &field(x).to_le_bytes());
         }
         6 => {
             let at = ENDS + 24 * r.below(2) as usize;
@@ -182,8 +185,8 @@ fn damage_value(r: &mut Random, sheet: &mut [u8]) {
 fn end_from(bytes: &[u8]) -> End {
     End {
         kind: word(bytes, 0),
-        depth: word(bytes, 4),
-        concentration: word(bytes, 8),
+        depth: word(bytes, 4).into(),
+        concentration: word(bytes, 8).into(),
         zero: word(bytes, 12),
         discharge: i64::from_le_bytes(bytes[16..24].try_into().expect("eight bytes")),
     }

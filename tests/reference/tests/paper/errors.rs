@@ -55,7 +55,7 @@ fn still_water_over_a_rough_bed_stays_still() {
             cell.0 = r.between(-2_000_000, 1_300_000);
             cell.1 = (level - cell.0).max(0) as u64;
         }
-        let last = fed_end(cells[11].1.max(1) as u32, 0, 0);
+        let last = fed_end(cells[11].1.max(1), 0, 0);
         let right = if cells[11].1 > 0 { last } else { open_end(0) };
         let mut lake = settled(2_000, [WALL_END, right], &cells);
         let before = lake.columns.clone();

@@ -5,7 +5,7 @@ use reference::random::{any_record, record, Random, Record};
 
 use crate::support::{fed_end, open_end, settled, WALL_END};
 
-fn greatest(record: &Record) -> (u32, u32) {
+fn greatest(record: &Record) -> (u64, usize) {
     let answer = greatest_step(&record.columns, record.x, record.ends, record.book);
     assert_eq!(answer.refusal, 0);
     assert_eq!((answer.ends, answer.book), (record.ends, record.book));
@@ -48,7 +48,7 @@ fn place_is_the_first_of_the_fastest() {
         all.push(at_end(1));
         let most = *all.iter().max().unwrap();
         let place = all.iter().position(|&v| v == most).unwrap();
-        assert_eq!(greatest(&sound).1, place as u32);
+        assert_eq!(greatest(&sound).1, place);
     }
 }
 

@@ -12,7 +12,7 @@ use crate::support::{fed_end, open_end, record};
 #[derive(Clone, Debug, PartialEq)]
 pub struct Case {
     pub record: Record,
-    pub t: u32,
+    pub t: u64,
     pub new_ends: [End; 2],
     pub out: Vec<u8>,
 }
@@ -61,7 +61,7 @@ fn check(call: fn(&mut Case) -> u32, mut case: Case, ground: u32, name: &str) {
 #[test]
 fn step_refuses_by_4_to_13() {
     let mut breaks = record_breaks();
-    for t in [0, 1_001, u32::MAX] {
+    for t in [0, 1_001, (1 << 32) + 100, u64::MAX] {
         add(&mut breaks, 10, "t", move |case| case.t = t);
     }
     add(&mut breaks, 11, "fast cell", |case| {

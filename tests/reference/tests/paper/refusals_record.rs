@@ -19,7 +19,7 @@ pub fn add(breaks: &mut Breaks, ground: u32, name: &str, damage: impl Fn(&mut Ca
 pub fn record_breaks() -> Breaks {
     let mut breaks = Breaks::new();
     lengths(&mut breaks);
-    for x in [0, 99, 100_001, u32::MAX] {
+    for x in [0, 99, 100_001, (1 << 32) + 1_000, u64::MAX] {
         add(&mut breaks, 5, "X", move |case| case.record.x = x);
     }
     for end in ends_broken() {
@@ -112,9 +112,12 @@ pub fn ends_broken() -> Vec<End> {
             ..open_end(1)
         },
         open_end(500_001),
+        open_end((1 << 32) + 1),
+        open_end(u64::MAX),
         fed_end(0, 0, 1),
         fed_end(4_000_001, 0, 1),
-        fed_end(u32::MAX, 0, 1),
+        fed_end((1 << 32) + 5, 0, 1),
+        fed_end(u64::MAX, 0, 1),
         fed_end(5, 40_001, 1),
         fed_end(5, -40_001, 1),
         fed_end(5, i64::MIN, 1),
@@ -215,7 +218,7 @@ pub fn flood(case: &mut Case, total: usize) {
     c.nutrient.fill(5 * DEPTH);
     c.discharge.fill(way * 500 * DEPTH as i64);
     set_carried(case, [way * DEPTH as i64; 4]);
-    let fed = fed_end(DEPTH as u32, way * 500 * DEPTH as i64, 7);
+    let fed = fed_end(DEPTH, way * 500 * DEPTH as i64, 7);
     case.record.ends = [fed; 2];
     let mut totals = [0; 8];
     totals[total] = MOST_TOTAL - Random::new(total as u64).below(1_000);

@@ -103,9 +103,9 @@ fn random_call(r: &mut Random, record: &mut Record, bounds: &mut Bounds, tally: 
         _ => {
             let t = greatest_step(&record.columns, record.x, record.ends, record.book).t;
             let t = match r.below(6) {
-                0 => r.below(1_002) as u32,
+                0 => r.below(1_002),
                 1 => t,
-                _ => 1 + r.below(u64::from(t)) as u32,
+                _ => 1 + r.below(t),
             };
             let answer = step(record, t);
             tally.steps += u32::from(answer.refusal == 0);
@@ -179,6 +179,19 @@ fn random_records_are_sound_and_carry_both_ways() {
     assert!(signs.iter().all(|&count| count > 1_000), "{signs:?}");
 }
 
+/// The low halves of what a sheet has in 32 bits.
+fn cut(record: &mut Record) {
+    let low = |value: &mut u64| *value &= u64::from(u32::MAX);
+    let c = &mut record.columns;
+    c.bed.iter_mut().for_each(|z| *z = i64::from(*z as i32));
+    c.depth.iter_mut().for_each(low);
+    low(&mut record.x);
+    for end in &mut record.ends {
+        low(&mut end.depth);
+        low(&mut end.concentration);
+    }
+}
+
 #[test]
 fn no_values_make_a_call_panic() {
     let mut r = Random::new(16);
@@ -199,20 +212,23 @@ fn no_values_make_a_call_panic() {
         for _ in 0..r.below(4) {
             let i = r.below(n as u64) as usize;
             let value = r.pick(&odd);
-            match r.below(7) {
+            match r.below(10) {
                 0 => record.columns.bed[i] = value as i64,
                 1 => record.columns.depth[i] = value,
                 2 => record.columns.discharge[i] = value as i64,
                 3 => record.columns.nutrient[i] = value,
                 4 => record.columns.base[i] = value,
                 5 => record.columns.carried[i] = value as i64,
-                _ => record.ends[0].discharge = value as i64,
+                6 => record.ends[0].discharge = value as i64,
+                7 => record.ends[0].depth = value,
+                8 => record.ends[1].concentration = value,
+                _ => record.x = value,
             }
         }
         if r.one_in(3) {
             damage_record(&mut r, &mut record, 5);
         }
-        let t = r.pick(&odd) as u32;
+        let t = r.pick(&odd);
         let given = record.ends;
         let _ = greatest_step(&record.columns, record.x, record.ends, record.book);
         let mut out = vec![0; 200];
@@ -227,6 +243,7 @@ fn no_values_make_a_call_panic() {
         settle(&mut record.clone());
         let c = &mut record.columns.clone();
         let _ = set_ends(c, record.x, record.ends, record.book, given);
+        cut(&mut record);
         let bytes = sheet_of(&record, COLUMN_ORDERS[0]);
         let _ = reference::open(&bytes, &mut Columns::of_cells(n));
     }

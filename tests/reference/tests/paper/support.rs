@@ -12,7 +12,7 @@ pub const WALL_END: End = End {
     discharge: 0,
 };
 
-pub fn open_end(concentration: u32) -> End {
+pub fn open_end(concentration: u64) -> End {
     End {
         kind: OPEN,
         concentration,
@@ -20,7 +20,7 @@ pub fn open_end(concentration: u32) -> End {
     }
 }
 
-pub fn fed_end(depth: u32, discharge: i64, concentration: u32) -> End {
+pub fn fed_end(depth: u64, discharge: i64, concentration: u64) -> End {
     End {
         kind: FED,
         depth,
@@ -31,7 +31,7 @@ pub fn fed_end(depth: u32, discharge: i64, concentration: u32) -> End {
 }
 
 /// Cells as (bed level, base depth, discharge, nutrient); depths follow from the carried water.
-pub fn record(x: u32, ends: [End; 2], cells: &[(i64, u64, i64, u64)], carried: &[i64]) -> Record {
+pub fn record(x: u64, ends: [End; 2], cells: &[(i64, u64, i64, u64)], carried: &[i64]) -> Record {
     let mut columns = Columns::of_cells(cells.len());
     for (i, &(z, b, q, m)) in cells.iter().enumerate() {
         columns.bed[i] = z;
@@ -50,12 +50,12 @@ pub fn record(x: u32, ends: [End; 2], cells: &[(i64, u64, i64, u64)], carried: &
 }
 
 /// A record without carried water.
-pub fn settled(x: u32, ends: [End; 2], cells: &[(i64, u64, i64, u64)]) -> Record {
+pub fn settled(x: u64, ends: [End; 2], cells: &[(i64, u64, i64, u64)]) -> Record {
     record(x, ends, cells, &vec![0; cells.len() + 1])
 }
 
 /// Steps and holds the book handed back.
-pub fn step(record: &mut Record, t: u32) -> StepAnswer {
+pub fn step(record: &mut Record, t: u64) -> StepAnswer {
     let answer = reference::step(&mut record.columns, record.x, record.ends, record.book, t);
     record.book = answer.book;
     answer
