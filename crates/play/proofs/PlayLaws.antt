@@ -1,10 +1,10 @@
 -- Laws of a play: steps one after the other, and what each refusal stops. Assumes nothing.
 use mathlib.Core.Path.{_≡_, refl, sym, ap, _∙_}
-use mathlib.Core.Bool.{cond}
+use mathlib.Core.Bool.{true, false, cond}
 use mathlib.Core.List.{List}
 use Prim.Native.Nat.{ℕ, zero, suc, _+_, _-_, _≤_, _<_}
 use native.Mathlib.Omega.{arith}
-use borrow.Author.Tests.{eq-eqb, ne-eqb, le-leb, lt-leb}
+use borrow.Author.Tests.{eq-eqb, ne-eqb}
 use lib.IntN.{ℤ}
 use Rattle.reach.specs.Reach.{Reach, reachOf}
 use Rattle.reach.specs.Outcome.{Outcome}
@@ -12,7 +12,7 @@ use Rattle.reach.specs.declared.held.Held.{Held}
 use Rattle.update.specs.Step.{step}
 use Rattle.transport.specs.Calls.{transport}
 use Rattle.sheet.specs.Opening.{opening}
-use Rattle.play.specs.Play.{steps, countMost, stepsThenTransports, played}
+use Rattle.play.specs.Play.{steps, countFits, stepsThenTransports, played}
 use Rattle.play.specs.Ranges.{PlayedTo}
 use Rattle.play.specs.declared.Ran.{Ran}
 
@@ -53,15 +53,15 @@ module _ (s : List ℕ) (l : Reach) (count t : ℕ) where
   not-opened n = rw (ne-eqb _ _ n) refl
 
   module _ (e : opening s l .refusal ≡ 0) where
-    pub too-many : countMost < count → played s l count t ≡ record { refusal = 10; reach = opening s l .reach }
+    pub too-many : countFits count ≡ false → played s l count t ≡ record { refusal = 10; reach = opening s l .reach }
     unfolding played stepsThenTransports
-    too-many m = rw (eq-eqb _ _ e, lt-leb _ _ m) refl
+    too-many m = rw (eq-eqb _ _ e, m) refl
 
-    module _ (f : count ≤ countMost) where
+    module _ (f : countFits count ≡ true) where
       pub not-stepped : (steps count t (opening s l .reach) .refusal ≡ 0 → ⊥) → played s l count t ≡ steps count t (opening s l .reach)
       unfolding played stepsThenTransports
-      not-stepped n = rw (eq-eqb _ _ e, le-leb _ _ f, ne-eqb _ _ n) refl
+      not-stepped n = rw (eq-eqb _ _ e, f, ne-eqb _ _ n) refl
 
       pub transported : steps count t (opening s l .reach) .refusal ≡ 0 → played s l count t ≡ transport (steps count t (opening s l .reach) .reach)
       unfolding played stepsThenTransports
-      transported g = rw (eq-eqb _ _ e, le-leb _ _ f, eq-eqb _ _ g) refl
+      transported g = rw (eq-eqb _ _ e, f, eq-eqb _ _ g) refl

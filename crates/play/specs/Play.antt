@@ -1,5 +1,5 @@
 -- Document 01, 'Figures to meet': the program opens, steps and transports (the paper: 'settles').
-use mathlib.Core.Bool.{cond}
+use mathlib.Core.Bool.{Bool, cond}
 use mathlib.Core.List.{List}
 use Prim.Native.Nat.{ℕ, zero, suc}
 use lib.Dec.{leb, eqb}
@@ -19,12 +19,15 @@ unfoldable pub steps : (k t : ℕ) → Reach → Outcome
 steps zero t s = record { refusal = 0; reach = s }
 steps (suc k) t s = andThen (step s t) (λ r. steps k t r)
 
--- a count over 1,000 is 10; with a count of 0, t is not looked at
 abbrev pub countMost : ℕ
 countMost = 1_000
 
+unfoldable pub countFits : ℕ → Bool
+countFits count = leb count countMost
+
+-- a count over 1,000 is 10; with a count of 0, t is not looked at
 unfoldable pub stepsThenTransports : (count t : ℕ) → Reach → Outcome
-stepsThenTransports count t s = andThen (outcome (passOr 10 (leb count countMost)) s s) (λ r. andThen (steps count t r) transport)
+stepsThenTransports count t s = andThen (outcome (passOr 10 (countFits count)) s s) (λ r. andThen (steps count t r) transport)
 
 -- opens into the lent columns l, steps, transports
 unfoldable pub played : (s : List ℕ) → Reach → (count t : ℕ) → Outcome

@@ -1,10 +1,12 @@
 // What the program does with its input: it opens, steps and transports.
 ghost use mathlib.Core.Path.{_≡_};
 ghost use Rattle.reach.specs.Reach.{came};
+ghost use Rattle.reach.specs.Grounds.{passOr};
 ghost use Rattle.sheet.specs.Opening.{noneHeld};
-ghost use Rattle.play.specs.Play.{steps, played};
+ghost use Rattle.play.specs.Play.{steps, countFits, played};
 ghost use Rattle.play.specs.Ranges.{RanTo, PlayedTo};
 use reach::held::Held;
+use reach::refusal::Check;
 use sheet::opening::open_sheet;
 use stepping::step::step;
 
@@ -54,6 +56,16 @@ fn came_to(refusal: u32, held: Held) -> Ran
     Ran { refusal, held }
 }
 
+// A step count over 1,000 is 10
+fn check_count(count: u64) -> Check
+    ensures { λ r. ⌜ r ≡ passOr 10 (countFits count) ⌝ }
+{
+    if 1_000 < count {
+        return Check::Refused(10);
+    }
+    Check::Pass
+}
+
 // Opens the sheet into the lent columns, steps count times, and transports.
 pub fn play(
     s: &[u8],
@@ -73,9 +85,9 @@ pub fn play(
     if o.refusal != 0 {
         return came_to(o.refusal, opened);
     }
-    if 1_000 < count {
+    let Check::Pass = check_count(count) else {
         return came_to(10, opened);
-    }
+    };
     let x = o.cell_length;
     let r = run_steps(
         bed,

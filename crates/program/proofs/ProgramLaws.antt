@@ -1,13 +1,15 @@
 -- Laws of the program: its text by what it met. Assumes nothing.
 use mathlib.Core.Path.{_≡_, refl, sym, ap, _∙_}
+use mathlib.Core.Bool.{true, false}
 use mathlib.Core.List.{List, _∷_}
-use Prim.Native.Nat.{ℕ, zero, suc, _+_, _-_, _/_, _≤_, _<_}
+use Prim.Native.Nat.{ℕ, zero, suc, _+_, _-_, _/_, _≤_}
 use native.Mathlib.Nat.{le-of-suc-le-suc}
 use native.Mathlib.Omega.{arith}
-use borrow.Author.Tests.{eq-eqb, ne-eqb, lt-ltb, le-ltb}
+use borrow.Author.Tests.{eq-eqb, ne-eqb, leb-true}
 use lib.IntN.{ℤ, pos}
 use lib.ListN.{length, take, replicate}
 use Rattle.reach.specs.Reach.{Reach}
+use Rattle.reach.specs.Grounds.{firstRefusal}
 use Rattle.reach.specs.Outcome.{Outcome}
 use Rattle.reach.specs.declared.ledger.Ledger.{Ledger}
 use Rattle.encoding.specs.FromBytes.{numberAt}
@@ -16,7 +18,7 @@ use Rattle.play.specs.Play.{played}
 use Rattle.play.specs.Ranges.{PlayedTo}
 use Rattle.play.specs.declared.Ran.{Ran}
 use Rattle.report.specs.Report.{reportText, refusedText, outcomeText}
-use Rattle.program.specs.Program.{blank, programText}
+use Rattle.program.specs.Program.{blank, trailerFits, inputFits, programText}
 
 -- the text of an outcome
 pub refused-text : {o : Outcome} {r : Ran} {z : List ℤ} {h : List ℕ} {q : List ℤ} {m b : List ℕ} {c : List ℤ} → PlayedTo o r z h q m b c → (r .refusal ≡ 0 → ⊥) → refusedText (r .refusal) ≡ outcomeText o
@@ -43,16 +45,27 @@ blank-is n l =
     rw (take-replicate (pos 0) 512 n l, take-replicate {A = ℕ} 0 512 n l, take-replicate (pos 0) 513 (n + 1) (omega arith)) refl
 
 -- the program's text by the length of its input
-pub too-short : (input : List ℕ) → length input < 8 → refusedText 1 ≡ programText input
-unfolding programText
-too-short input l = rw (lt-ltb _ _ l) refl
+module _ (input : List ℕ) where
+  pub too-short : trailerFits (length input) ≡ false → refusedText 1 ≡ programText input
+  unfolding programText firstRefusal outcomeText
+  too-short f = rw f refl
 
-pub too-long : (input : List ℕ) → 8 ≤ length input → 12_376 < length input → refusedText 2 ≡ programText input
-unfolding programText
-too-long input k l = rw (le-ltb _ _ k, lt-ltb _ _ l) refl
+  module _ (f : trailerFits (length input) ≡ true) where
+    pub too-long : inputFits (length input) ≡ false → refusedText 2 ≡ programText input
+    unfolding programText firstRefusal outcomeText
+    too-long g = rw (f, g) refl
 
-pub program-is : (input : List ℕ) (n count t : ℕ) (l : Reach) → 8 ≤ length input → length input ≤ 12_376 → n ≡ (length input - 8 - 80) / 24 → l ≡ blank n
-    → count ≡ numberAt 4 input (length input - 8) → t ≡ numberAt 4 input (length input - 8 + 4)
-    → outcomeText (played (take (length input - 8) input) l count t) ≡ programText input
-unfolding programText
-program-is input n count t l a b e f g h = rw (le-ltb _ _ a, le-ltb _ _ b, f, e, g, h) refl
+    pub program-is : inputFits (length input) ≡ true → (n count t : ℕ) (l : Reach) → n ≡ (length input - 8 - 80) / 24 → l ≡ blank n
+        → count ≡ numberAt 4 input (length input - 8) → t ≡ numberAt 4 input (length input - 8 + 4)
+        → outcomeText (played (take (length input - 8) input) l count t) ≡ programText input
+    unfolding programText firstRefusal
+    program-is g n count t l e h i j = rw (f, g, h, e, i, j) refl
+
+-- and what the limits tell of it
+pub trailer-there : (size : ℕ) → trailerFits size ≡ true → 8 ≤ size
+unfolding trailerFits
+trailer-there size e = leb-true _ _ e
+
+pub input-short : (size : ℕ) → inputFits size ≡ true → size ≤ 12_376
+unfolding inputFits
+input-short size e = leb-true _ _ e

@@ -3,15 +3,17 @@ ghost use mathlib.Core.Path.{_≡_};
 ghost use Prim.Native.Nat.{_-_, _/_, _≤_};
 ghost use lib.ListN.{length};
 ghost use Rattle.reach.specs.Limits.{cellsMost};
+ghost use Rattle.reach.specs.Grounds.{passOr};
 ghost use Rattle.sheet.specs.Header.{headerSize};
 ghost use Rattle.sheet.specs.Opening.{lent};
 ghost use Rattle.play.specs.Play.{played};
 ghost use Rattle.report.specs.Report.{outcomeText};
 ghost use Rattle.text.specs.Text.{Put};
-ghost use Rattle.program.specs.Program.{programText};
+ghost use Rattle.program.specs.Program.{trailerFits, inputFits, programText};
 use encoding::reading::read_number;
 use play::play;
 use reach::cells::CELLS_MOST;
+use reach::refusal::Check;
 use report::put_refused;
 use report::put_report;
 use sheet::header::HEADER_SIZE;
@@ -59,18 +61,38 @@ fn cells_in(k: usize) -> usize
     (k - HEADER_SIZE) / CELL_SIZE
 }
 
+// An input under 8 bytes is 1
+fn check_trailer(size: usize) -> Check
+    ensures { λ r. ⌜ r ≡ passOr 1 (trailerFits size) ⌝ }
+{
+    if size < TRAILER {
+        return Check::Refused(1);
+    }
+    Check::Pass
+}
+
+// One over 12,376 bytes is 2
+fn check_input(size: usize) -> Check
+    ensures { λ r. ⌜ r ≡ passOr 2 (inputFits size) ⌝ }
+{
+    if INPUT_MOST < size {
+        return Check::Refused(2);
+    }
+    Check::Pass
+}
+
 // The text for this input, at the start of `out`; answers its length.
 pub fn program(input: &[u8], out: &mut [u8]) -> usize
     requires { ⌜ 65_536 ≤ length (now out) ⌝ }
     ensures { λ r. ⌜ (r ≡ length (programText (now (input .entry)))) × (r ≤ 65_536) ⌝ }
     ensures { λ _. ⌜ Put (now (out .entry)) 0 (programText (now (input .entry))) (now (out .exit)) ⌝ }
 {
-    if input.len() < TRAILER {
+    let Check::Pass = check_trailer(input.len()) else {
         return put_refused(out, 1);
-    }
-    if INPUT_MOST < input.len() {
+    };
+    let Check::Pass = check_input(input.len()) else {
         return put_refused(out, 2);
-    }
+    };
     let k = input.len() - TRAILER;
     let count = read_number(input, k, 4);
     let t = read_number(input, k + 4, 4);

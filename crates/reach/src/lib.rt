@@ -62,5 +62,8 @@ pub fn check_record(
     ) else {
         return Check::Refused(8);
     };
-    check_ledger(held.ledger)
+    let Check::Pass = check_ledger(held.ledger) else {
+        return Check::Refused(9);
+    };
+    Check::Pass
 }

@@ -139,7 +139,10 @@ fn check_opening(
     let Check::Pass = check_boundaries(read_boundaries(s)) else {
         return Check::Refused(6);
     };
-    check_values(s, layout_of(s), n)
+    let Check::Pass = check_values(s, layout_of(s), n) else {
+        return Check::Refused(7);
+    };
+    Check::Pass
 }
 
 // The sheet's values, b = h, c = 0. Nothing refuses any more.

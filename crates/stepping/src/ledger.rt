@@ -5,9 +5,8 @@ ghost use Prim.Native.Nat.{_≤_};
 ghost use lib.IntN.{natAbs};
 ghost use Rattle.reach.specs.Limits.{totalMost};
 ghost use Rattle.reach.specs.Grounds.{ledgerFits};
-ghost use Rattle.transport.specs.Calls.{ledgerWith};
+ghost use Rattle.transport.specs.Calls.{ledgerWith, EnteredTo};
 ghost use Rattle.transport.specs.Ranges.{Small};
-ghost use Rattle.transport.specs.Calls.{pickEntered};
 ghost use Rattle.water.specs.Ranges.{fluxMost};
 ghost use Rattle.update.specs.Step.{withWater, withBoundaryWater};
 use numbers::signed::left_part;
@@ -35,7 +34,7 @@ fn with_water(t: Totals, gained: u64, lost: u64) -> Totals
 pub fn enter_step(k: Ledger, x: BoundaryMass, first: i64, last: i64) -> Entered
     requires { ⌜ (ledgerFits k ≡ true) × Small (x .«left_in») (x .«left_out») (x .«right_in») (x .«right_out») ⌝ }
     requires { ⌜ (natAbs first ≤ fluxMost) × (natAbs last ≤ fluxMost) ⌝ }
-    ensures { λ r. ⌜ r ≡ pickEntered (ledgerFits (withBoundaryWater (ledgerWith k (x .«left_in») (x .«left_out») (x .«right_in») (x .«right_out»)) first last)) (withBoundaryWater (ledgerWith k (x .«left_in») (x .«left_out») (x .«right_in») (x .«right_out»)) first last) ⌝ }
+    ensures { λ r. ⌜ EnteredTo k (withBoundaryWater (ledgerWith k (x .«left_in») (x .«left_out») (x .«right_in») (x .«right_out»)) first last) r ⌝ }
 {
     let left = k.left;
     let right = k.right;

@@ -24,6 +24,7 @@ use reach::check_record;
 use reach::held::Held;
 use reach::refusal::Check;
 use transport::Entered;
+use transport::refusal_of;
 use water::sweep::sweep;
 
 // What a step hands back: 0 or the number of its refusal, the boundaries held, the ledger, and whether it transported first.
@@ -142,8 +143,9 @@ fn advance(
     };
     let transports = !keeps_sums(base, carried, &net);
     let crossed = boundary_mass_when(transports, mass, base, carried, boundaries);
-    let Entered::Accepted(next) = enter_step(ledger, crossed, net[0], net[n]) else {
-        return stopped(13, held);
+    let entered = enter_step(ledger, crossed, net[0], net[n]);
+    let Entered::Accepted(next) = entered else {
+        return stopped(refusal_of(entered), held);
     };
     transport_when(
         transports,

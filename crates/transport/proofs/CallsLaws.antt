@@ -1,7 +1,7 @@
 -- Laws of the calls that move mass: what a sound record owes the functions, what each outcome is, that mass and bounds are kept, and
 -- that an accepted call leaves a sound record. Assumes nothing.
 use mathlib.Core.Path.{_≡_, refl, sym, ap, _∙_, subst}
-use mathlib.Core.Bool.{Bool, true, false}
+use mathlib.Core.Bool.{Bool, true, false, cond}
 use mathlib.Core.Logic.{⊎-elim}
 use mathlib.Core.List.{List}
 use Prim.Native.Nat.{ℕ, zero, suc, _+_, _-_, _*_, _≤_, _<_}
@@ -22,7 +22,7 @@ use Rattle.mass.specs.Ranges.{Ready, massMost}
 use Rattle.mass.proofs.TransportLaws.{waterRightwards, waterLeftwards, waterStayed, conserved, moved-all, moved-lo, moved-hi, leftwards-small, rightwards-small, leftwards-end}
 use Rattle.reach.specs.Limits.{wall}
 use Rattle.reach.specs.Reach.{Reach, reachOf, cells, depthAt, baseAt, massAt, carriedAt, leftBoundary, rightBoundary}
-use Rattle.reach.specs.Grounds.{firstRefusal, recordGrounds, boundariesFit, ledgerFits, passOr}
+use Rattle.reach.specs.Grounds.{firstRefusal, recordGrounds, boundariesFit, ledgerFits, numberOf, passOr}
 use Rattle.reach.specs.Outcome.{Outcome, outcome}
 use Rattle.reach.specs.Parts.{outflow}
 use Rattle.reach.specs.Balance.{massHeld, massIn, massOut, MassBalanced, everywhere, CellsWithin, BoundaryWithin, BoundariesWithin}
@@ -30,12 +30,11 @@ use Rattle.reach.specs.declared.boundary.Boundary.{Boundary}
 use Rattle.reach.specs.declared.ledger.Ledger.{Ledger}
 use Rattle.reach.specs.declared.refusal.Check.{Check}
 use Rattle.reach.specs.declared.refusal.Check.the-variants.{Pass, Refused}
-use Rattle.reach.proofs.GroundsLaws.{further, no-further, last-one, numbered, refused-number}
+use Rattle.reach.proofs.GroundsLaws.{passes, refuses, passed, refused-by, further, no-further, last-one, numbered, refused-number}
 use Rattle.reach.proofs.PartsLaws.{outflow-is}
 use Rattle.reach.proofs.Sound.{Sound, CarriedSound, none-carried, sound, given-fits, stands, boundary-sound}
-use Rattle.transport.specs.Calls.{enteringLeft, enteringRight, massColumnsOf, withMass, ledgerWith, transportLedger, afterTransport, transportGrounds, transport, holding, setBoundaries, CameTo}
+use Rattle.transport.specs.Calls.{enteringLeft, enteringRight, massColumnsOf, withMass, ledgerWith, transportLedger, afterTransport, transportGrounds, transport, holding, setBoundaries, CameTo, enteredCheck, enteredNumber, enteredLedger, EnteredTo}
 use Rattle.transport.specs.Ranges.{massColumnsWith, BoundaryMassOf, Small}
-use Rattle.transport.specs.Calls.{pickEntered}
 use Rattle.transport.specs.declared.Entered.{Entered}
 use Rattle.transport.specs.declared.TransportAnswer.{TransportAnswer}
 
@@ -134,14 +133,25 @@ module _ (s : Reach) (es : List Boundary) where
       go Pass p false q = subst P (sym (full p q)) (stays 13 (omega arith))
       go (Refused n) p t q = subst P (sym (stopped n p)) (stays n (refused-number (recordGrounds s es) n (all-numbered s es) p))
 
--- what entering the ledger found
-pub entered-refused : (t : Bool) (k : Ledger) (e : Entered) (x : ℕ) → e ≡ pickEntered t k → e ≡ Entered.Refused x → t ≡ false
-entered-refused true k e x p q = cc
-entered-refused false k e x p q = refl
+-- ---- 13, as entering the ledger answers it
 
-pub entered-accepted : (t : Bool) (k : Ledger) (e : Entered) (x : Ledger) → e ≡ pickEntered t k → e ≡ Entered.Accepted x → (t ≡ true) × (x ≡ k)
-entered-accepted true k e x p q = (refl, cc)
-entered-accepted false k e x p q = (cc, cc)
+module _ (k : Ledger) {l next : Ledger} (e : l ≡ next) where
+  pub enters : ledgerFits l ≡ true → EnteredTo k next (Entered.Accepted l)
+  enters f = rw (← e) (record { check-is = passes 13 f; ledger-is = rw f refl })
+
+  pub enters-not : ledgerFits l ≡ false → EnteredTo k next (Entered.Refused 13)
+  enters-not f = rw (← e) (record { check-is = refuses 13 f; ledger-is = rw f refl })
+
+module _ {k next : Ledger} {e : Entered} (w : EnteredTo k next e) where
+  pub entered-accepted : (l : Ledger) → e ≡ Entered.Accepted l → (ledgerFits next ≡ true) × (l ≡ next)
+  entered-accepted l q =
+      let f = passed 13 (ledgerFits next) (enteredCheck e) (w .check-is) (ap enteredCheck q) in
+      (f, sym (ap (enteredLedger k) q) ∙ w .ledger-is ∙ ap (λ (t : Bool). cond t next k) f)
+
+  pub entered-refused : (n : ℕ) → e ≡ Entered.Refused n → (ledgerFits next ≡ false) × (enteredNumber e ≡ 13)
+  entered-refused n q =
+      let f = refused-by 13 (ledgerFits next) (enteredCheck e) n (w .check-is) (ap enteredCheck q) in
+      (f, ap numberOf (w .check-is ∙ ap (passOr 13) f))
 
 -- ---- mass
 
@@ -329,17 +339,6 @@ module _ (s : Reach) (k : Sound s) where
         ledger = ledger;
       }
 
--- ---- the same of the call, accepted or refused
-
--- a pair that is held from now on moves no mass
-holding-balanced : (s t : Reach) (es : List Boundary) → MassBalanced s t → MassBalanced s (holding es t)
-unfolding MassBalanced holding massHeld
-holding-balanced s t es b = b
-
-holding-within : (lo hi : ℕ → ℤ) (es : List Boundary) (t : Reach) → CellsWithin lo hi t → CellsWithin lo hi (holding es t)
-unfolding holding
-holding-within lo hi es t w = record { above = w .above; below = w .below }
-
 -- the pair that is held already changes nothing
 pub holding-held : (s : Reach) → holding (s .held .boundaries) (afterTransport s) ≡ afterTransport s
 unfolding holding afterTransport
@@ -349,16 +348,6 @@ holding-held s = refl
 pub transport-is : (s : Reach) → transport s ≡ setBoundaries s (s .held .boundaries)
 unfolding transport setBoundaries holding afterTransport
 transport-is s = refl
-
-pub balanced : (s : Reach) (es : List Boundary) → MassBalanced s (setBoundaries s es .reach)
-unfolding MassBalanced
-balanced s es = by-outcome s es (λ o. MassBalanced s (o .reach)) (λ n p. omega arith) (λ k f l. holding-balanced s (afterTransport s) es (transport-balanced s k))
-
-pub within : (s : Reach) (es : List Boundary) (lo hi : ℤ) → CellsWithin (everywhere lo) (everywhere hi) s → BoundariesWithin (everywhere lo) (everywhere hi) (cells s) (s .held .boundaries)
-    → CellsWithin (everywhere lo) (everywhere hi) (setBoundaries s es .reach)
-within s es lo hi w e =
-    by-outcome s es (λ o. CellsWithin (everywhere lo) (everywhere hi) (o .reach)) (λ n p. w)
-    (λ k f l. holding-within (everywhere lo) (everywhere hi) es (afterTransport s) (transport-within s k lo hi w e))
 
 -- every statement about a transport, by the two ways it can go
 pub by-transport : (s : Reach) (P : Outcome → Type 0)

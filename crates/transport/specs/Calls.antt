@@ -1,6 +1,6 @@
 -- Document 01, 'Settling': the calls that move mass, transport (the paper's 'settling') and the setting of boundaries (its 'end setting').
 use mathlib.Core.Path.{_≡_}
-use mathlib.Core.Bool.{Bool, true, false}
+use mathlib.Core.Bool.{cond}
 use mathlib.Core.List.{List, [], _∷_, _++_}
 use Prim.Native.Nat.{ℕ, _+_, _*_}
 use lib.IntN.{ℤ, pos, negℤ}
@@ -9,12 +9,14 @@ use Rattle.numbers.specs.Index.{tabulate}
 use Rattle.numbers.specs.Signed.{positive}
 use Rattle.mass.specs.Transport.{MassColumns, massColumns, rightwards, leftwards, movedCell}
 use Rattle.reach.specs.Reach.{Reach, reachOf, cells, carriedAt, leftBoundary, rightBoundary, withBoundaries, withLedger}
-use Rattle.reach.specs.Grounds.{Ground, ground, firstRefusal, ledgerFits, recordGrounds}
+use Rattle.reach.specs.Grounds.{Ground, ground, firstRefusal, numberOf, passOr, ledgerFits, recordGrounds}
 use Rattle.reach.specs.Outcome.{Outcome, outcome}
 use Rattle.reach.specs.declared.boundary.Boundary.{Boundary}
 use Rattle.reach.specs.declared.ledger.Totals.{Totals}
 use Rattle.reach.specs.declared.ledger.Ledger.{Ledger}
+use Rattle.reach.specs.declared.refusal.Check.{Check}
 use Rattle.transport.specs.declared.Entered.{Entered}
+use Rattle.transport.specs.declared.Entered.the-variants.{Accepted, Refused}
 use Rattle.transport.specs.declared.TransportAnswer.{TransportAnswer}
 
 -- water entering at a boundary brings its amount times that boundary's concentration
@@ -78,7 +80,23 @@ pub record CameTo (o : Outcome) (r : TransportAnswer) (mass base : List ℕ) (ca
   pub base-is : base ≡ o .reach .base
   pub carried-is : carried ≡ o .reach .carried
 
--- what entering amounts into a ledger answers: the new ledger, or a refusal by 13
-abbrev pub pickEntered : Bool → Ledger → Entered
-pickEntered true k = Entered.Accepted k
-pickEntered false k = Entered.Refused 13
+-- ---- 13, as entering amounts into a ledger answers it: the new ledger, or a refusal
+
+-- each case as the answer of a check
+abbrev pub enteredCheck : Entered → Check
+enteredCheck (Accepted k) = Check.Pass
+enteredCheck (Refused n) = Check.Refused n
+
+-- the paper's number, 0 for none
+abbrev pub enteredNumber : Entered → ℕ
+enteredNumber e = numberOf (enteredCheck e)
+
+-- the ledger from then on: a refusal leaves the ledger k as it came
+abbrev pub enteredLedger : Ledger → Entered → Ledger
+enteredLedger k (Accepted next) = next
+enteredLedger k (Refused n) = k
+
+-- entering came out: `next` in place of the ledger k where no total of it passes 10^18
+pub record EnteredTo (k next : Ledger) (e : Entered) : Type 0 where
+  pub check-is : enteredCheck e ≡ passOr 13 (ledgerFits next)
+  pub ledger-is : enteredLedger k e ≡ cond (ledgerFits next) next k

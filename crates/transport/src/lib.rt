@@ -9,9 +9,8 @@ ghost use Rattle.mass.specs.Ranges.{Ready, massMost, movedMass};
 ghost use Rattle.reach.specs.Limits.{totalMost};
 ghost use Rattle.reach.specs.Reach.{came};
 ghost use Rattle.reach.specs.Grounds.{ledgerFits, numberOf};
-ghost use Rattle.transport.specs.Calls.{withMass, ledgerWith, setBoundaries, transport as transportOf, CameTo};
+ghost use Rattle.transport.specs.Calls.{withMass, ledgerWith, enteredNumber, EnteredTo, setBoundaries, transport as transportOf, CameTo};
 ghost use Rattle.transport.specs.Ranges.{massColumnsWith, BoundaryMassOf, Small, answer};
-ghost use Rattle.transport.specs.Calls.{pickEntered};
 use mass::leaving;
 use mass::move_mass;
 use numbers::columns::clear_column;
@@ -93,9 +92,19 @@ pub enum Entered {
     Refused(u32),
 }
 
+// 0 or the number of the refusal
+pub fn refusal_of(e: Entered) -> u32
+    ensures { λ r. ⌜ r ≡ enteredNumber e ⌝ }
+{
+    let Entered::Refused(n) = e else {
+        return 0;
+    };
+    n
+}
+
 pub fn enter(k: Ledger, x: BoundaryMass) -> Entered
     requires { ⌜ (ledgerFits k ≡ true) × Small (x .«left_in») (x .«left_out») (x .«right_in») (x .«right_out») ⌝ }
-    ensures { λ r. ⌜ r ≡ pickEntered (ledgerFits (ledgerWith k (x .«left_in») (x .«left_out») (x .«right_in») (x .«right_out»))) (ledgerWith k (x .«left_in») (x .«left_out») (x .«right_in») (x .«right_out»)) ⌝ }
+    ensures { λ r. ⌜ EnteredTo k (ledgerWith k (x .«left_in») (x .«left_out») (x .«right_in») (x .«right_out»)) r ⌝ }
 {
     let left = k.left;
     let right = k.right;
@@ -152,8 +161,12 @@ pub fn set_boundaries(
     let old = held.boundaries;
     let ledger = held.ledger;
     let crossed = boundary_mass_of(mass, base, carried, old);
-    let Entered::Accepted(next) = enter(ledger, crossed) else {
-        return TransportAnswer { refusal: 13, held };
+    let entered = enter(ledger, crossed);
+    let Entered::Accepted(next) = entered else {
+        return TransportAnswer {
+            refusal: refusal_of(entered),
+            held,
+        };
     };
     commit(
         depth,

@@ -12,7 +12,7 @@ use Rattle.reach.specs.Grounds.{ground, firstRefusal, numberOf, passOr, recordG
 use Rattle.reach.specs.declared.boundary.Boundary.{Boundary}
 use Rattle.reach.specs.declared.refusal.Check.{Check}
 use Rattle.reach.specs.declared.refusal.Check.the-variants.{Pass, Refused}
-use Rattle.reach.proofs.GroundsLaws.{stood, go-on, stop-at, last-one, further, passed-first, no-further}
+use Rattle.reach.proofs.GroundsLaws.{refuses, stood, go-on, stop-at, last-one, further, passed-first, no-further}
 use Rattle.reach.proofs.Sound.{Sound, sound}
 use Rattle.encoding.proofs.ToBytesLaws.{written-part, next, length-column}
 use Rattle.sheet.specs.Header.{sheetSize}
@@ -106,6 +106,9 @@ module _ (s : Reach) (room : ℕ) where
   pub room-left : firstRefusal (recordGrounds s (s .held .boundaries)) ≡ Pass → noneCarried (s .carried) ≡ true → writeRefusal s room ≡ passOr 15 (roomFits (cells s) room)
   unfolding writeRefusal
   room-left e f = further (recordGrounds s (s .held .boundaries)) _ e ∙ go-on (ground 14 (noneCarried (s .carried))) _ f (last-one 15 _)
+
+  pub stopped-15 : firstRefusal (recordGrounds s (s .held .boundaries)) ≡ Pass → noneCarried (s .carried) ≡ true → roomFits (cells s) room ≡ false → writeRefusal s room ≡ Refused 15
+  stopped-15 e f g = room-left e f ∙ sym (refuses 15 g)
 
   -- what an accepted write tells
   pub write-sound : writeRefusal s room ≡ Pass → Sound s

@@ -87,7 +87,10 @@ fn check_write(
     let Check::Pass = check_none_carried(carried) else {
         return Check::Refused(14);
     };
-    check_room(bed.len(), room)
+    let Check::Pass = check_room(bed.len(), room) else {
+        return Check::Refused(15);
+    };
+    Check::Pass
 }
 
 // The whole sheet, at the start of out. Each column is filled from its own offset on. A sheet has no base depths, carried water or ledger.

@@ -175,8 +175,19 @@ returns-6 c =
 check-ledger-requires : tie.Need-check-ledger-requires
 check-ledger-requires c κs = search needs
 
+enum-told-13 : tie.Need-enum-told-13
+enum-told-13 c = search needs
+
+enum-told-14 : tie.Need-enum-told-14
+enum-told-14 c = search needs
+
 returns-7 : tie.Need-returns-7
-returns-7 c = c .check-ledger .ensures ∙ sym (after-carried (c .before .before) ∙ last-one 9 _)
+returns-7 c =
+    sym (after-carried (c .before .before .before .before) ∙ stop-at _ _ (refused-by 9 _ _ _ (c .before .before .check-ledger .ensures) (c .enum-told14 .given .1)))
+
+returns-8 : tie.Need-returns-8
+returns-8 c =
+    sym (c .enum-told13 .given .1) ∙ c .before .before .check-ledger .ensures ∙ sym (after-carried (c .before .before .before .before) ∙ last-one 9 _)
 
 pub check-record-spec : {M : Type 1} → statement M
 check-record-spec =
@@ -209,4 +220,7 @@ check-record-spec =
     enum-told-12
     returns-6
     check-ledger-requires
-    returns-7)
+    enum-told-13
+    enum-told-14
+    returns-7
+    returns-8)

@@ -1,10 +1,9 @@
 -- `transport::enter` meets its contract. Assumes nothing.
-use mathlib.Core.Path.{_≡_, sym, ap, ap₂, _∙_}
-use Rattle.reach.specs.Grounds.{ledgerFits}
+use mathlib.Core.Path.{_≡_, sym, ap₂, _∙_}
 use Rattle.reach.specs.declared.ledger.Totals.{Totals}
 use Rattle.reach.proofs.Sound.{totals-sound, ledger-left, ledger-right}
 use Rattle.transport.specs.Calls.{ledgerWith}
-use Rattle.transport.specs.Calls.{pickEntered}
+use Rattle.transport.proofs.CallsLaws.{enters, enters-not}
 use borrow.Author.Needs.{needs}
 use Rattle.transport.proofs.enter.Statement.{statement}
 use Rattle.transport.proofs.enter.Tie as tie
@@ -32,16 +31,10 @@ ledger-fits-requires : tie.Need-ledger-fits-requires
 ledger-fits-requires c κs = search needs
 
 returns : tie.Need-returns
-returns c =
-    let e = next-is (c .before .before) in
-    let f = ap ledgerFits (sym e) ∙ sym (c .before .ledger-fits .ensures) ∙ c .if1 .taken in
-    sym (ap₂ pickEntered f (sym e))
+returns c = enters _ (next-is (c .before .before)) (sym (c .before .ledger-fits .ensures) ∙ c .if1 .taken)
 
 returns-2 : tie.Need-returns-2
-returns-2 c =
-    let e = next-is (c .before .before) in
-    let f = ap ledgerFits (sym e) ∙ sym (c .before .ledger-fits .ensures) ∙ c .if1 .left in
-    sym (ap₂ pickEntered f (sym e))
+returns-2 c = enters-not _ (next-is (c .before .before)) (sym (c .before .ledger-fits .ensures) ∙ c .if1 .left)
 
 pub enter-spec : {M : Type 1} → statement M
 enter-spec =

@@ -6,11 +6,11 @@ use native.Mathlib.Omega.{arith}
 use Rattle.mass.specs.Transport.{MassColumns, massColumns}
 use Rattle.mass.specs.Ranges.{Ready, movedMass}
 use Rattle.reach.specs.Reach.{Reach, reachOf, withBoundaries, withLedger}
-use Rattle.reach.specs.Grounds.{firstRefusal, recordGrounds, ledgerFits, numberOf}
+use Rattle.reach.specs.Grounds.{firstRefusal, recordGrounds, numberOf}
 use Rattle.reach.specs.declared.ledger.Ledger.{Ledger}
 use Rattle.reach.specs.declared.refusal.Check.the-variants.{Pass}
 use Rattle.reach.proofs.Sound.{Sound, sound}
-use Rattle.transport.specs.Calls.{massColumnsOf, ledgerWith, transportLedger, afterTransport, holding}
+use Rattle.transport.specs.Calls.{massColumnsOf, ledgerWith, transportLedger, afterTransport, holding, EnteredTo}
 use Rattle.transport.specs.Ranges.{BoundaryMassOf, answer}
 use Rattle.transport.proofs.CallsLaws.{ready, columns-with, small, ledger-is, stopped, full, accepted, entered-refused, entered-accepted}
 use borrow.Author.Needs.{needs}
@@ -49,6 +49,14 @@ ledger-entered : (c : tie.After-boundary-mass-of) →
     let x = c .boundary-mass-of .result in
     ledgerWith (start (told c) .args .held .ledger) (x .«left_in») (x .«left_out») (x .«right_in») (x .«right_out») ≡ transportLedger (reach (start (told c)))
 ledger-entered c = ledger-is (reach (start (told c))) (checked (told c)) _ _ _ _ (crossed c)
+
+-- ground 13
+entered : (c : tie.After-enter) →
+    let s = start (told (c .before)) in
+    EnteredTo (s .args .held .ledger) (transportLedger (reach s)) (c .enter .result)
+entered c =
+    let s = start (told (c .before)) in
+    subst (λ (k : Ledger). EnteredTo (s .args .held .ledger) k (c .enter .result)) (ledger-entered (c .before)) (c .enter .ensures)
 
 -- the columns with what enters, as the code computed it
 entering : (c : tie.After-boundary-mass-of) →
@@ -112,11 +120,14 @@ boundary-mass-of-requires c κs =
 enter-requires : tie.Need-enter-requires
 enter-requires c κs = (checked (told c) .ledger, small (reach (start (told c))) (checked (told c)) _ _ _ _ (crossed c))
 
-enum-known-next : tie.Need-enum-known-next
-enum-known-next c = search needs
+enum-known-entered : tie.Need-enum-known-entered
+enum-known-entered c = search needs
 
 enum-told-3 : tie.Need-enum-told-3
 enum-told-3 c = search needs
+
+refusal-of-requires : tie.Need-refusal-of-requires
+refusal-of-requires c κs = search needs
 
 same-length-4 : tie.Need-same-length-4
 same-length-4 c = search needs
@@ -129,11 +140,12 @@ same-length-6 c = search needs
 
 returns-2 : tie.Need-returns-2
 returns-2 c =
-    let x = c .before .before .before in
-    let s = start (told x) in
-    let q = entered-refused _ _ _ _ (c .before .before .enter .ensures) (c .enum-told3 .given .1) in
-    rw (full (reach s) (s .args .given) (passed (told x)) (ap ledgerFits (sym (ledger-entered x)) ∙ q))
-    (record { refusal-is = refl; held-is = refl; mass-is = refl; base-is = refl; carried-is = refl })
+    let n = c .before .before .before in
+    let e = told (n .before) in
+    let s = start e in
+    let q = entered-refused (entered n) _ (c .before .enum-told3 .given .1) in
+    rw (full (reach s) (s .args .given) (passed e) (q .0))
+    (record { refusal-is = c .refusal-of .ensures ∙ q .1; held-is = refl; mass-is = refl; base-is = refl; carried-is = refl })
 
 commit-requires : tie.Need-commit-requires
 commit-requires c κs =
@@ -155,14 +167,15 @@ same-length-9 c = search needs
 returns-3 : tie.Need-returns-3
 unfolding afterTransport holding
 returns-3 c =
-    let x = c .before .before .before .before .before .before .before .before .before .before .before .before .before in
-    let s = start (told x) in
     let d = c .before .before .before .before .before in
-    let q = entered-accepted _ _ _ _ (d .before .before .before .before .before .before .before .enter .ensures) (d .before .before .before .before .before .next .given .1) in
-    rw (accepted (reach s) (s .args .given) (passed (told x)) (ap ledgerFits (sym (ledger-entered x)) ∙ q .0))
+    let n = d .before .before .before .before .before .before .before in
+    let x = n .before in
+    let s = start (told x) in
+    let q = entered-accepted (entered n) _ (d .before .before .before .before .before .entered .given .1) in
+    rw (accepted (reach s) (s .args .given) (passed (told x)) (q .0))
     (record {
       refusal-is = refl;
-      held-is = ap (λ (k : Ledger). withBoundaries (s .args .given) (withLedger k (s .args .held))) (q .1 ∙ ledger-entered x);
+      held-is = ap (λ (k : Ledger). withBoundaries (s .args .given) (withLedger k (s .args .held))) (q .1);
       mass-is = d .commit .ensures .0 ∙ ap movedMass (sym (entering x));
       base-is = d .commit .ensures .1 .0;
       carried-is = d .commit .ensures .1 .1;
@@ -182,8 +195,9 @@ set-boundaries-spec =
     returns
     boundary-mass-of-requires
     enter-requires
-    enum-known-next
+    enum-known-entered
     enum-told-3
+    refusal-of-requires
     same-length-4
     same-length-5
     same-length-6

@@ -1,19 +1,19 @@
 -- `sheet::opening::check_opening` meets its contract, ground by ground. Assumes nothing.
-use mathlib.Core.Path.{_≡_, sym, ap, _∙_}
+use mathlib.Core.Path.{_≡_, refl, sym, ap, _∙_}
 use mathlib.Core.Bool.{true}
 use mathlib.Core.List.{List}
 use Prim.Native.Nat.{ℕ, _≤_}
 use native.Mathlib.Omega.{arith}
-use lib.ListN.{length}
+use lib.ListN.{length, drop}
 use denote.Ref.{now}
 use borrow.Author.Needs.{needs}
 use Rattle.numbers.specs.Index.{allBelow}
-use Rattle.reach.specs.Grounds.{cellLengthFits, boundariesFit, passOr}
+use Rattle.reach.specs.Grounds.{Ground, firstRefusal, cellLengthFits, boundariesFit, cellsFit, passOr}
 use Rattle.reach.specs.declared.boundary.Boundary.{Boundary}
 use Rattle.reach.proofs.GroundsLaws.{passed, refused-by, go-on, stop-at, last-one}
 use Rattle.sheet.specs.Header.{headerSize, countOf, cellLengthOf, boundariesOf, editionFits, sizeFits, columnsClear, spansOf}
 use Rattle.sheet.specs.Ranges.{Within, cellAt}
-use Rattle.sheet.specs.Opening.{lentFit}
+use Rattle.sheet.specs.Opening.{sheetRecord, lentFit, openGrounds}
 use Rattle.sheet.proofs.OpeningLaws.{edition-long, size-few, within, values-are}
 use Rattle.sheet.proofs.opening.check_opening.Statement.{statement}
 use Rattle.sheet.proofs.opening.check_opening.Tie as tie
@@ -55,6 +55,29 @@ boundaries-are c = c .check-boundaries .ensures ∙ ap (λ (es : List Boundary).
 
 boundaries : (c : tie.After-enum-told11) → boundariesFit (boundariesOf (sheet (c .before .before .before .before .before .before .before .before .before .before .before .before .before .before .before .before .before .before .before .before .before .before))) ≡ true
 boundaries c = passed 6 _ _ (boundaries-are (c .before .before)) (c .enum-told11 .given .1)
+
+-- grounds 1 to 6 stand, so the seventh decides
+abbrev entry : tie.After-enum-told11 → tie.Start
+entry c = c .before .before .before .before .before .before .before .before .before .before .before .before .before .before .before .before .before .before .before .before .before .before
+
+abbrev grounds : tie.Start → List Ground
+grounds s =
+    let a = s .args in openGrounds (now (a .s)) (a .bed) (a .depth) (a .discharge) (a .mass) (a .base) (a .carried)
+
+after-boundaries : (c : tie.After-enum-told11) → firstRefusal (grounds (entry c)) ≡ firstRefusal (drop 6 (grounds (entry c)))
+after-boundaries c =
+    go-on _ _ (edition (c .before .before .before .before .before .before .before .before .before .before .before .before .before .before .before .before .before .before)) (go-on _ _ (size (c .before .before .before .before .before .before .before .before .before .before .before .before .before .before .before)) (go-on _ _ (clear (c .before .before .before .before .before .before .before .before .before .before .before .before)) (go-on _ _ (lengths (c .before .before .before .before .before .before .before .before)) (go-on _ _ (cell-length (c .before .before .before .before))
+    (go-on _ _ (boundaries c) refl)))))
+
+-- ground 7, of the sheet's record
+values : (c : tie.After-check-values) →
+    let r = sheetRecord (sheet (entry (c .before .before))) in c .check-values .result ≡ passOr 7 (cellsFit (r .bed) (r .depth) (r .discharge) (r .mass) (r .base))
+values c =
+    let s = sheet (entry (c .before .before)) in
+    let l = c .before .layout-of .result in
+    c .check-values .ensures
+    ∙ ap (λ (n : ℕ). passOr 7 (allBelow n (cellAt s l))) (c .before .before .before .before .before .before .before .before .before .before .before .before .before .count-of .ensures .0)
+    ∙ ap (passOr 7) (values-are s l (c .before .layout-of .ensures))
 
 check-edition-requires : tie.Need-check-edition-requires
 check-edition-requires c κs = search needs
@@ -151,15 +174,17 @@ check-values-requires c κs =
     let e = c .before .before .before .before .before .before .before .before .before .before .before .before .count-of .ensures .0 in
     rw e (within s (c .layout-of .result) (c .layout-of .ensures) (size (c .before .before .before .before .before .before .before .before .before .before .before .before .before .before .before .before)) (clear (c .before .before .before .before .before .before .before .before .before .before .before .before .before)))
 
+enum-told-13 : tie.Need-enum-told-13
+enum-told-13 c = search needs
+
+enum-told-14 : tie.Need-enum-told-14
+enum-told-14 c = search needs
+
 returns-7 : tie.Need-returns-7
-returns-7 c =
-    let s = sheet (c .before .before .before .before .before .before .before .before .before .before .before .before .before .before .before .before .before .before .before .before .before .before .before .before) in
-    let l = c .before .layout-of .result in
-    c .check-values .ensures
-    ∙ ap (λ (n : ℕ). passOr 7 (allBelow n (cellAt s l))) (c .before .before .before .before .before .before .before .before .before .before .before .before .before .count-of .ensures .0)
-    ∙ ap (passOr 7) (values-are s l (c .before .layout-of .ensures))
-    ∙ sym (go-on _ _ (edition (c .before .before .before .before .before .before .before .before .before .before .before .before .before .before .before .before .before .before .before .before)) (go-on _ _ (size (c .before .before .before .before .before .before .before .before .before .before .before .before .before .before .before .before .before)) (go-on _ _ (clear (c .before .before .before .before .before .before .before .before .before .before .before .before .before .before)) (go-on _ _ (lengths (c .before .before .before .before .before .before .before .before .before .before)) (go-on _ _ (cell-length (c .before .before .before .before .before .before))
-    (go-on _ _ (boundaries (c .before .before)) (last-one 7 _)))))))
+returns-7 c = sym (after-boundaries (c .before .before .before .before) ∙ stop-at _ _ (refused-by 7 _ _ _ (values (c .before .before)) (c .enum-told14 .given .1)))
+
+returns-8 : tie.Need-returns-8
+returns-8 c = sym (c .enum-told13 .given .1) ∙ values (c .before .before) ∙ sym (after-boundaries (c .before .before .before .before) ∙ last-one 7 _)
 
 pub check-opening-spec : {M : Type 1} → statement M
 check-opening-spec =
@@ -194,4 +219,7 @@ check-opening-spec =
     returns-6
     layout-of-requires
     check-values-requires
-    returns-7)
+    enum-told-13
+    enum-told-14
+    returns-7
+    returns-8)

@@ -7,11 +7,10 @@ use mir.Facts.{toZ-ofZ}
 use Rattle.numbers.specs.Signed.{positive}
 use Rattle.numbers.proofs.SignedLaws.{abs-parts}
 use Rattle.reach.specs.Limits.{totalMost}
-use Rattle.reach.specs.Grounds.{ledgerFits}
 use Rattle.reach.specs.declared.ledger.Totals.{Totals}
 use Rattle.reach.proofs.Sound.{totals-sound, ledger-left, ledger-right}
 use Rattle.transport.specs.Calls.{ledgerWith, withMass}
-use Rattle.transport.specs.Calls.{pickEntered}
+use Rattle.transport.proofs.CallsLaws.{enters, enters-not}
 use Rattle.update.specs.Step.{withWater, withBoundaryWater}
 use borrow.Author.Needs.{needs}
 use Rattle.stepping.proofs.ledger.enter_step.Statement.{statement}
@@ -110,16 +109,10 @@ ledger-fits-requires : tie.Need-ledger-fits-requires
 ledger-fits-requires c κs = search needs
 
 returns : tie.Need-returns
-returns c =
-    let e = next-is (c .before .before) in
-    let f = ap ledgerFits (sym e) ∙ sym (c .before .ledger-fits .ensures) ∙ c .if1 .taken in
-    sym (ap₂ pickEntered f (sym e))
+returns c = enters _ (next-is (c .before .before)) (sym (c .before .ledger-fits .ensures) ∙ c .if1 .taken)
 
 returns-2 : tie.Need-returns-2
-returns-2 c =
-    let e = next-is (c .before .before) in
-    let f = ap ledgerFits (sym e) ∙ sym (c .before .ledger-fits .ensures) ∙ c .if1 .left in
-    sym (ap₂ pickEntered f (sym e))
+returns-2 c = enters-not _ (next-is (c .before .before)) (sym (c .before .ledger-fits .ensures) ∙ c .if1 .left)
 
 pub enter-step-spec : {M : Type 1} → statement M
 enter-step-spec =

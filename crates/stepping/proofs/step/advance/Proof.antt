@@ -15,12 +15,10 @@ use Rattle.cfl.specs.Cfl.{meetsCfl}
 use Rattle.mass.specs.Transport.{MassColumns}
 use Rattle.mass.specs.Ranges.{Ready}
 use Rattle.reach.specs.Reach.{Reach, reachOf, cells}
-use Rattle.reach.specs.Grounds.{ledgerFits}
 use Rattle.reach.specs.declared.ledger.Ledger.{Ledger}
 use Rattle.reach.proofs.GroundsLaws.{passed, refused-by}
 use Rattle.reach.proofs.Sound.{Sound, sound}
-use Rattle.transport.specs.Calls.{massColumnsOf}
-use Rattle.transport.specs.Calls.{pickEntered}
+use Rattle.transport.specs.Calls.{massColumnsOf, EnteredTo}
 use Rattle.transport.proofs.CallsLaws.{ready, columns-with, entered-refused, entered-accepted}
 use Rattle.water.specs.Ranges.{flowOf, Swept, sidesMeet}
 use Rattle.water.proofs.WaterLaws.{sides-same, swept-same}
@@ -104,18 +102,18 @@ crossed c =
     (columns-with (reach s) (whole s))
     (c .boundary-mass-when .ensures)
 
--- ground 13: what the ledger would be
+-- ground 13
 entered : (c : tie.After-enter-step) →
     let s = entry (c .before .before .before .before .before .before .before .before .before .before .before .before .before .before .before .before .before .before .before .before) in
-    c .enter-step .result ≡ pickEntered (ledgerFits (stepLedger (reach s) (s .args .t))) (stepLedger (reach s) (s .args .t))
+    EnteredTo (s .args .held .ledger) (stepLedger (reach s) (s .args .t)) (c .enter-step .result)
 entered c =
     let w = c .before .before .before .before .before .before .before .before .before .before .before .before .before .before .before .before .before .before .before .before in
     let s = entry w in
     let x = c .before .before .before .boundary-mass-when .result in
-    rw (toZ-ofZ (sfits-of (c .before .before .enter-step-arg .given)), toZ-ofZ (sfits-of (c .before .enter-step-arg2 .given))) at (c .enter-step .ensures)
-    ∙ ap (λ (k : Ledger). pickEntered (ledgerFits k) k)
+    subst (λ (k : Ledger). EnteredTo (s .args .held .ledger) k (c .enter-step .result))
     (ledger-after (reach s) (whole s) (s .args .t) (not (c .before .before .before .before .before .before .before .keeps-sums .result)) (transporting (c .before .before .before .before .before .before .before)) (x .«left_in») (x .«left_out») (x .«right_in») (x .«right_out») (crossed (c .before .before .before))
     _ _ (swept w .nets 0 (omega arith)) (swept w .nets (cells (reach s)) (omega arith)))
+    (rw (toZ-ofZ (sfits-of (c .before .before .enter-step-arg .given)), toZ-ofZ (sfits-of (c .before .enter-step-arg2 .given))) at (c .enter-step .ensures))
 
 -- the carried water after the transport inside the step
 abbrev carried : tie.After-transport-when → List ℤ
@@ -236,11 +234,14 @@ enter-step-requires c κs =
       (at 0 (omega arith), at (cells (reach s)) (omega arith)),
     )
 
-enum-known-next : tie.Need-enum-known-next
-enum-known-next c = search needs
+enum-known-entered : tie.Need-enum-known-entered
+enum-known-entered c = search needs
 
 enum-told-5 : tie.Need-enum-told-5
 enum-told-5 c = search needs
+
+refusal-of-requires : tie.Need-refusal-of-requires
+refusal-of-requires c κs = search needs
 
 stopped-requires-3 : tie.Need-stopped-requires-3
 stopped-requires-3 c κs = search needs
@@ -262,11 +263,14 @@ same-length-9 c = refl
 
 returns-3 : tie.Need-returns-3
 returns-3 c =
-    let s = entry (c .before .before .before .before .before .before .before .before .before .before .before .before .before .before .before .before .before .before .before .before .before .before .before) in
+    let e = c .before .before .before .before in
+    let s = entry (e .before .before .before .before .before .before .before .before .before .before .before .before .before .before .before .before .before .before .before .before) in
     let a = s .args in
-    subst (λ (r : StepAnswer). StepCameTo (reach s) (a .t) r (now (a .depth)) (now (a .discharge)) (now (a .mass)) (now (a .base)) (now (a .carried))) (sym (c .stopped3 .ensures))
+    let q = entered-refused (entered e) _ (c .before .before .enum-told5 .given .1) in
+    subst (λ (r : StepAnswer). StepCameTo (reach s) (a .t) r (now (a .depth)) (now (a .discharge)) (now (a .mass)) (now (a .base)) (now (a .carried)))
+    (sym (c .stopped3 .ensures ∙ ap (λ (n : ℕ). stoppedBy n (a .held)) (c .before .refusal-of .ensures ∙ q .1)))
     (stayed (reach s) (a .t) 13 (omega arith)
-    (stopped-13 (reach s) (a .t) (s .pre .0) (s .pre .1) (cfl (c .before .before .before .before .before .before .before .before .before .before .before .before .before .before .before .before .before .before)) (deep (c .before .before .before .before .before .before .before .before .before .before .before .before .before .before)) (entered-refused _ _ _ _ (entered (c .before .before .before)) (c .before .enum-told5 .given .1))))
+    (stopped-13 (reach s) (a .t) (s .pre .0) (s .pre .1) (cfl (e .before .before .before .before .before .before .before .before .before .before .before .before .before .before .before)) (deep (e .before .before .before .before .before .before .before .before .before .before .before)) (q .0)))
 
 transport-when-requires : tie.Need-transport-when-requires
 transport-when-requires c κs =
@@ -323,7 +327,7 @@ returns-4 c =
     let e = transporting (c .before .before .before .before .before .before .before .before .before .before .before .before .before .before .before .before .before .before .before .before .before .before .before .before .before .before .before .before .before .before .before) in
     let wrote = c .before .before .before .before .write-step .ensures in
     let moved = c .before .before .before .before .before .before .before .before .before .before .before .before .before .before .before .before .transport-when .ensures in
-    let ledger-entered = entered-accepted _ _ _ _ (entered (c .before .before .before .before .before .before .before .before .before .before .before .before .before .before .before .before .before .before .before .before .before .before .before .before)) (c .before .before .before .before .before .before .before .before .before .before .before .before .before .before .before .before .before .before .before .before .before .before .next .given .1) in
+    let ledger-entered = entered-accepted (entered (c .before .before .before .before .before .before .before .before .before .before .before .before .before .before .before .before .before .before .before .before .before .before .before .before)) _ (c .before .before .before .before .before .before .before .before .before .before .before .before .before .before .before .before .before .before .before .before .before .before .entered .given .1) in
     came-out (reach s) t
     (stepped-on (reach s) t (s .pre .0) (s .pre .1) (cfl (c .before .before .before .before .before .before .before .before .before .before .before .before .before .before .before .before .before .before .before .before .before .before .before .before .before .before .before .before .before .before .before .before .before .before .before .before .before .before .before)) (deep (c .before .before .before .before .before .before .before .before .before .before .before .before .before .before .before .before .before .before .before .before .before .before .before .before .before .before .before .before .before .before .before .before .before .before .before)) (ledger-entered .0))
     (ledger-entered .1)
@@ -363,8 +367,9 @@ advance-spec =
     mul-enter-step
     array-copy-out-enter-step-2
     enter-step-requires
-    enum-known-next
+    enum-known-entered
     enum-told-5
+    refusal-of-requires
     stopped-requires-3
     same-length-5
     same-length-6

@@ -1,4 +1,5 @@
 -- `writing::write::check_write` meets its contract. Assumes nothing.
+use mathlib.Core.Bool.{true}
 use mathlib.Core.Path.{_≡_, sym, _∙_}
 use denote.Ref.{now}
 use borrow.Author.Needs.{needs}
@@ -7,7 +8,8 @@ use Rattle.reach.specs.Grounds.{firstRefusal, recordGrounds}
 use Rattle.reach.specs.declared.refusal.Check.the-variants.{Pass}
 use Rattle.reach.proofs.GroundsLaws.{passed, refused-by}
 use Rattle.reach.proofs.Sound.{sound}
-use Rattle.writing.proofs.WritingLaws.{stopped-before, stopped-14, room-left}
+use Rattle.writing.specs.Writing.{noneCarried}
+use Rattle.writing.proofs.WritingLaws.{stopped-before, stopped-14, stopped-15, room-left}
 use Rattle.writing.proofs.write.check_write.Statement.{statement}
 use Rattle.writing.proofs.write.check_write.Tie as tie
 
@@ -20,6 +22,9 @@ reach s =
 
 checked : (c : tie.After-enum-told) → let s = reach (start (c .before .before)) in firstRefusal (recordGrounds s (s .held .boundaries)) ≡ Pass
 checked c = sym (c .before .before .check-record .ensures) ∙ c .enum-told .given .1
+
+nothing-carried : (c : tie.After-enum-told3) → noneCarried (reach (start (c .before .before .before .before .before)) .carried) ≡ true
+nothing-carried c = passed 14 _ _ (c .before .before .check-none-carried .ensures) (c .enum-told3 .given .1)
 
 check-record-requires : tie.Need-check-record-requires
 check-record-requires c κs = search needs
@@ -58,12 +63,25 @@ check-room-requires c κs =
     let s = reach (start (e .before .before)) in
     sound s (s .held .boundaries) (checked e) .few
 
+enum-told-5 : tie.Need-enum-told-5
+enum-told-5 c = search needs
+
+enum-told-6 : tie.Need-enum-told-6
+enum-told-6 c = search needs
+
 returns-3 : tie.Need-returns-3
 returns-3 c =
-    let t = c .before in
+    let t = c .before .before .before in
     let e = t .before .before .before in
     let s = start (e .before .before) in
-    c .check-room .ensures ∙ sym (room-left (reach s) (s .args .room) (checked e) (passed 14 _ _ (t .before .before .check-none-carried .ensures) (t .enum-told3 .given .1)))
+    sym (stopped-15 (reach s) (s .args .room) (checked e) (nothing-carried t) (refused-by 15 _ _ _ (c .before .before .check-room .ensures) (c .enum-told6 .given .1)))
+
+returns-4 : tie.Need-returns-4
+returns-4 c =
+    let t = c .before .before .before in
+    let e = t .before .before .before in
+    let s = start (e .before .before) in
+    sym (c .enum-told5 .given .1) ∙ c .before .before .check-room .ensures ∙ sym (room-left (reach s) (s .args .room) (checked e) (nothing-carried t))
 
 pub check-write-spec : {M : Type 1} → statement M
 check-write-spec =
@@ -78,4 +96,7 @@ check-write-spec =
     enum-told-4
     returns-2
     check-room-requires
-    returns-3)
+    enum-told-5
+    enum-told-6
+    returns-3
+    returns-4)
