@@ -1,0 +1,77 @@
+-- `worked::grounds_worked` meets its contract: every value is computed from the definitions. Assumes nothing.
+use mathlib.Core.Path.{refl}
+use Rattle.numbers.specs.Index.{allOf, allBelow, tabulate, sum}
+use Rattle.numbers.specs.Root.{squareRoot}
+use Rattle.numbers.specs.Search.{climb}
+use Rattle.numbers.specs.Shares.{share, shares, rest}
+use Rattle.numbers.specs.Signed.{maxℤ, eqℤ}
+use Rattle.flux.specs.Crossing.{upper, lower, waterOf, waterFlux, secondMoment, momentumOf, momentumFlux, stillThrust}
+use Rattle.flux.specs.Interface.{reducedDepth, leftDepth, rightDepth, netWater, momentumSum, mirrored}
+use Rattle.flux.specs.Velocity.{velocity}
+use Rattle.flux.specs.Wave.{waveSpeed}
+use Rattle.cfl.specs.Cfl.{signalSpeed, speedAt, meetsCfl, greatestStep, fastestPlace}
+use Rattle.mass.specs.Transport.{cellShares, rightwards, leftwards, movedCell}
+use Rattle.reach.specs.Parts.{parts, outflow}
+use Rattle.reach.specs.Grounds.{firstRefusal, lengthsFit, cellLengthFits, wallFits, openFits, fedFits, kindFits, boundaryFits, boundariesFit, cellFits, cellsFit, carriedFits, carriedCellsFit, shutFits, carriedFit, totalsFit, ledgerFits}
+use Rattle.transport.specs.Calls.{enteringLeft, enteringRight, withMass, ledgerWith, transportLedger, afterTransport, holding, setBoundaries, transport}
+use Rattle.water.specs.Sides.{sideSpeed, cellSide, boundarySide, leftSide, rightSide}
+use Rattle.water.specs.Water.{netAt, momentumAt, ownLeft, ownRight, newDepth, pushed, nearest, newDischarge}
+use Rattle.timestep.specs.GreatestStep.{boundarySpeed, leftSpeed, rightSpeed, placeSpeed, greatestTime, greatestPlace, greatest}
+use Rattle.update.specs.Step.{summed, keepsSums, transportedFirst, withWater, withBoundaryWater, stepLedger, afterStep, timeFits, depthsFit, step}
+use Rattle.encoding.specs.FromBytes.{numberAt, twosIn, twos, columnAt}
+use Rattle.sheet.specs.Header.{sheetSize, boundaryAt, boundariesOf, editionFits, sizeFits, inside, apart, apartFrom, columnsClear, spansOf}
+use Rattle.sheet.specs.Opening.{sheetRecord, lentFit, opening}
+use Rattle.writing.specs.Writing.{noneCarried, roomFits, writeRefusal}
+use Rattle.tally.specs.Tally.{start}
+use Rattle.worked.proofs.grounds_worked.Statement.{statement}
+use Rattle.worked.proofs.grounds_worked.Tie as tie
+
+returns : tie.Need-returns
+unfolding allOf allBelow tabulate sum squareRoot climb share shares rest maxℤ eqℤ upper lower waterOf waterFlux secondMoment momentumOf momentumFlux stillThrust reducedDepth leftDepth rightDepth netWater momentumSum mirrored velocity waveSpeed signalSpeed speedAt meetsCfl greatestStep fastestPlace cellShares rightwards leftwards movedCell parts outflow firstRefusal lengthsFit cellLengthFits wallFits openFits fedFits kindFits boundaryFits boundariesFit cellFits cellsFit carriedFits carriedCellsFit shutFits carriedFit totalsFit ledgerFits enteringLeft enteringRight withMass ledgerWith transportLedger afterTransport holding setBoundaries transport sideSpeed cellSide boundarySide leftSide rightSide netAt momentumAt ownLeft ownRight newDepth pushed nearest newDischarge boundarySpeed leftSpeed rightSpeed placeSpeed greatestTime greatestPlace greatest summed keepsSums transportedFirst withWater withBoundaryWater stepLedger afterStep timeFits depthsFit step numberAt twosIn twos columnAt sheetSize boundaryAt boundariesOf editionFits sizeFits inside apart apartFrom columnsClear spansOf sheetRecord lentFit opening noneCarried roomFits writeRefusal start
+returns c =
+    record {
+      open-numbers = λ s z h q m b c. refl;
+      record-numbers = λ s es. refl;
+      step-numbers = λ s t. refl;
+      transport-numbers = λ s es. refl;
+      write-numbers = λ s room. refl;
+      step-begins = λ s t. refl;
+      transport-begins = λ s es. refl;
+      write-begins = λ s room. refl;
+      step-foot = refl;
+      step-4 = refl;
+      step-5 = refl;
+      step-6 = refl;
+      step-7 = refl;
+      step-8 = refl;
+      step-9 = refl;
+      step-10 = refl;
+      step-11 = refl;
+      step-12 = refl;
+      step-13 = refl;
+      step-0 = refl;
+      greatest-9 = refl;
+      greatest-0 = refl;
+      setting-5 = refl;
+      setting-6 = refl;
+      setting-7 = refl;
+      transport-9 = refl;
+      transport-13 = refl;
+      transport-0 = refl;
+      write-9 = refl;
+      write-14 = refl;
+      write-15 = refl;
+      write-0 = refl;
+      open-foot = refl;
+      open-1 = refl;
+      open-2 = refl;
+      open-3 = refl;
+      open-4 = refl;
+      open-5 = refl;
+      open-6 = refl;
+      open-7 = refl;
+      open-0 = refl;
+    }
+
+pub grounds-worked-spec : {M : Type 1} → statement M
+grounds-worked-spec = tie.close (tie.spec returns)

@@ -1,0 +1,40 @@
+-- `worked::interface_worked` meets its contract: every value is computed from the definitions. Assumes nothing.
+use mathlib.Core.Path.{refl}
+use Rattle.numbers.specs.Index.{allOf, allBelow, tabulate, sum}
+use Rattle.numbers.specs.Root.{squareRoot}
+use Rattle.numbers.specs.Search.{climb}
+use Rattle.numbers.specs.Shares.{share, shares, rest}
+use Rattle.numbers.specs.Signed.{maxℤ, eqℤ}
+use Rattle.flux.specs.Crossing.{upper, lower, waterOf, waterFlux, secondMoment, momentumOf, momentumFlux, stillThrust}
+use Rattle.flux.specs.Interface.{reducedDepth, leftDepth, rightDepth, netWater, momentumSum, mirrored}
+use Rattle.flux.specs.Velocity.{velocity}
+use Rattle.flux.specs.Wave.{waveSpeed}
+use Rattle.cfl.specs.Cfl.{signalSpeed, speedAt, meetsCfl}
+use Rattle.mass.specs.Transport.{cellShares, rightwards, leftwards, movedCell}
+use Rattle.reach.specs.Parts.{parts, outflow}
+use Rattle.reach.specs.Grounds.{firstRefusal, lengthsFit, cellLengthFits, wallFits, openFits, fedFits, kindFits, boundaryFits, boundariesFit, cellFits, cellsFit, carriedFits, carriedCellsFit, shutFits, carriedFit, totalsFit, ledgerFits}
+use Rattle.transport.specs.Calls.{enteringLeft, enteringRight, withMass, ledgerWith, transportLedger, afterTransport}
+use Rattle.water.specs.Sides.{sideSpeed, cellSide, boundarySide, leftSide, rightSide}
+use Rattle.water.specs.Water.{netAt, momentumAt, ownLeft, ownRight, newDepth, pushed, nearest, newDischarge}
+use Rattle.timestep.specs.GreatestStep.{boundarySpeed, leftSpeed, rightSpeed, placeSpeed}
+use Rattle.update.specs.Step.{summed, keepsSums, transportedFirst, withWater, withBoundaryWater, stepLedger, afterStep, timeFits, depthsFit, step}
+use Rattle.worked.proofs.interface_worked.Statement.{statement}
+use Rattle.worked.proofs.interface_worked.Tie as tie
+
+returns : tie.Need-returns
+unfolding allOf allBelow tabulate sum squareRoot climb share shares rest maxℤ eqℤ upper lower waterOf waterFlux secondMoment momentumOf momentumFlux stillThrust reducedDepth leftDepth rightDepth netWater momentumSum mirrored velocity waveSpeed signalSpeed speedAt meetsCfl cellShares rightwards leftwards movedCell parts outflow firstRefusal lengthsFit cellLengthFits wallFits openFits fedFits kindFits boundaryFits boundariesFit cellFits cellsFit carriedFits carriedCellsFit shutFits carriedFit totalsFit ledgerFits enteringLeft enteringRight withMass ledgerWith transportLedger afterTransport sideSpeed cellSide boundarySide leftSide rightSide netAt momentumAt ownLeft ownRight newDepth pushed nearest newDischarge boundarySpeed leftSpeed rightSpeed placeSpeed summed keepsSums transportedFirst withWater withBoundaryWater stepLedger afterStep timeFits depthsFit step
+returns c =
+    record {
+      left-depth = refl;
+      right-depth = refl;
+      none-shown = refl;
+      N-over-step = refl;
+      P-over-step = refl;
+      depths-moving = refl;
+      discharges-moving = refl;
+      depths-lake = refl;
+      discharges-lake = refl;
+    }
+
+pub interface-worked-spec : {M : Type 1} → statement M
+interface-worked-spec = tie.close (tie.spec returns)

@@ -1,0 +1,44 @@
+-- `worked::shares_worked` meets its contract: every value is computed from the definitions. Assumes nothing.
+use mathlib.Core.Path.{refl}
+use Rattle.numbers.specs.Index.{allOf, allBelow, tabulate, sum}
+use Rattle.numbers.specs.Root.{squareRoot}
+use Rattle.numbers.specs.Search.{climb}
+use Rattle.numbers.specs.Shares.{share, shares, rest}
+use Rattle.numbers.specs.Signed.{maxℤ, eqℤ}
+use Rattle.flux.specs.Crossing.{upper, lower, waterOf, waterFlux, secondMoment, momentumOf, momentumFlux, stillThrust}
+use Rattle.flux.specs.Interface.{reducedDepth, leftDepth, rightDepth, netWater, momentumSum, mirrored}
+use Rattle.flux.specs.Velocity.{velocity}
+use Rattle.flux.specs.Wave.{waveSpeed}
+use Rattle.mass.specs.Transport.{cellShares, rightwards, leftwards, movedCell}
+use Rattle.reach.specs.Parts.{parts, outflow}
+use Rattle.reach.specs.Grounds.{firstRefusal, lengthsFit, cellLengthFits, wallFits, openFits, fedFits, kindFits, boundaryFits, boundariesFit, cellFits, cellsFit, carriedFits, carriedCellsFit, shutFits, carriedFit, totalsFit, ledgerFits}
+use Rattle.transport.specs.Calls.{enteringLeft, enteringRight, withMass, ledgerWith, transportLedger, afterTransport, holding, transport}
+use Rattle.water.specs.Sides.{cellSide, boundarySide, leftSide, rightSide}
+use Rattle.water.specs.Water.{netAt, momentumAt, ownLeft, ownRight, newDepth, pushed, nearest, newDischarge}
+use Rattle.update.specs.Step.{summed, keepsSums, transportedFirst, withWater, withBoundaryWater, stepLedger, afterStep}
+use Rattle.encoding.specs.FromBytes.{numberAt, twosIn, twos, columnAt}
+use Rattle.sheet.specs.Header.{boundaryAt, boundariesOf}
+use Rattle.sheet.specs.Opening.{sheetRecord}
+use Rattle.tally.specs.Tally.{addWater, addMass, addStep, start, countStep, countTransport, countSetting}
+use Rattle.worked.proofs.shares_worked.Statement.{statement}
+use Rattle.worked.proofs.shares_worked.Tie as tie
+
+returns : tie.Need-returns
+unfolding allOf allBelow tabulate sum squareRoot climb share shares rest maxℤ eqℤ upper lower waterOf waterFlux secondMoment momentumOf momentumFlux stillThrust reducedDepth leftDepth rightDepth netWater momentumSum mirrored velocity waveSpeed cellShares rightwards leftwards movedCell parts outflow firstRefusal lengthsFit cellLengthFits wallFits openFits fedFits kindFits boundaryFits boundariesFit cellFits cellsFit carriedFits carriedCellsFit shutFits carriedFit totalsFit ledgerFits enteringLeft enteringRight withMass ledgerWith transportLedger afterTransport holding transport cellSide boundarySide leftSide rightSide netAt momentumAt ownLeft ownRight newDepth pushed nearest newDischarge summed keepsSums transportedFirst withWater withBoundaryWater stepLedger afterStep numberAt twosIn twos columnAt boundaryAt boundariesOf sheetRecord addWater addMass addStep start countStep countTransport countSetting
+returns c =
+    record {
+      grain-right = refl;
+      grain-left = refl;
+      grain-gone = refl;
+      grain-entered = refl;
+      right = refl;
+      left = refl;
+      accepted = refl;
+      masses = refl;
+      bases = refl;
+      none-carried = refl;
+      entered = refl;
+    }
+
+pub shares-worked-spec : {M : Type 1} → statement M
+shares-worked-spec = tie.close (tie.spec returns)

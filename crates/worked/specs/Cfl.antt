@@ -1,0 +1,70 @@
+-- Document 01, 'A water step' and 'The greatest step': CFL met with equality. X 1,000 mm, so that t·(|u|+a) may be 1,000,000.
+use mathlib.Core.Path.{_≡_}
+use mathlib.Core.List.{[], _∷_}
+use Prim.Native.Nat.{ℕ}
+use lib.IntN.{ℤ, pos, negℤ}
+use Rattle.flux.specs.Wave.{waveSpeed}
+use Rattle.reach.specs.Reach.{Reach, noBoundary, heldWith}
+use Rattle.reach.specs.declared.boundary.Boundary.{Boundary}
+use Rattle.sheet.specs.Opening.{emptyLedger}
+use Rattle.timestep.specs.GreatestStep.{greatest}
+use Rattle.update.specs.Step.{step}
+
+-- one cell over a level bed
+abbrev pub oneCell : (h : ℕ) (q : ℤ) (left right : Boundary) → Reach
+oneCell h q left right = record {
+  bed = pos 0 ∷ [];
+  depth = h ∷ [];
+  discharge = q ∷ [];
+  mass = 0 ∷ [];
+  base = h ∷ [];
+  carried = pos 0 ∷ pos 0 ∷ [];
+  cellLength = 1_000;
+  held = heldWith (left ∷ right ∷ []) emptyLedger;
+}
+
+abbrev pub fedStill : Boundary
+fedStill = record { kind = 2; reserved = 0; depth = 272_000; concentration = 0; discharge = pos 0 }
+
+-- between walls, at rest; at −500 mm/s; a cell beside a fed boundary at its left; at its right; and beside an open one at its left
+abbrev pub still : Reach
+still = oneCell 272_000 (pos 0) noBoundary noBoundary
+
+abbrev pub flowing : Reach
+flowing = oneCell 272_000 (negℤ (pos 136_000_000)) noBoundary noBoundary
+
+abbrev pub fedDeep : (h : ℕ) → Reach
+fedDeep h = oneCell h (pos 0) fedStill noBoundary
+
+abbrev pub fedRight : Reach
+fedRight = oneCell 100_000 (pos 0) noBoundary fedStill
+
+abbrev pub openLeft : Reach
+openLeft = oneCell 272_000 (pos 0) (record { kind = 1; reserved = 0; depth = 0; concentration = 0; discharge = pos 0 }) noBoundary
+
+pub record CflWorked : Type 0 where
+  -- 14,709,975·272,000 / 1,000,000 is 4,001,113; 2,000² is 4,000,000, 2,001² is 4,004,001
+  pub wave : waveSpeed 272_000 ≡ 2_000
+  -- 500·2,000 = 1,000,000 passes, 501·2,000 does not; with < for ≤ 500 is 11
+  pub still-500 : step still 500 .refusal ≡ 0
+  pub still-501 : step still 501 .refusal ≡ 11
+  -- the greatest step, at place 1, the cell
+  pub still-greatest : greatest still ≡ record { refusal = 0; held = still .held; time = 500; place = 1 }
+  -- |u| counts: 400·(500 + 2,000) = 1,000,000
+  pub flowing-400 : step flowing 400 .refusal ≡ 0
+  pub flowing-401 : step flowing 401 .refusal ≡ 11
+  pub flowing-greatest : greatest flowing ≡ record { refusal = 0; held = flowing .held; time = 400; place = 1 }
+  -- a fed boundary counts, place 0: its cell has wave speed 1,212
+  pub fed-500 : step (fedDeep 100_000) 500 .refusal ≡ 0
+  pub fed-501 : step (fedDeep 100_000) 501 .refusal ≡ 11
+  pub fed-greatest : greatest (fedDeep 100_000) ≡ record { refusal = 0; held = fedDeep 100_000 .held; time = 500; place = 0 }
+  -- of two equals the lower place
+  pub equal-greatest : greatest (fedDeep 272_000) ≡ record { refusal = 0; held = fedDeep 272_000 .held; time = 500; place = 0 }
+  -- at the right too: place 2 of one cell
+  pub right-500 : step fedRight 500 .refusal ≡ 0
+  pub right-501 : step fedRight 501 .refusal ≡ 11
+  pub right-greatest : greatest fedRight ≡ record { refusal = 0; held = fedRight .held; time = 500; place = 2 }
+  -- an open boundary does not count: it has the |u|+a of its cell, and would be the lower place
+  pub open-500 : step openLeft 500 .refusal ≡ 0
+  pub open-501 : step openLeft 501 .refusal ≡ 11
+  pub open-greatest : greatest openLeft ≡ record { refusal = 0; held = openLeft .held; time = 500; place = 1 }

@@ -1,0 +1,42 @@
+// Worked examples of document 01 that pin the model: each is chosen so that another reading of the paper gives another value. The values are those of the
+// second implementation, which asserts the same ones in tests/reference/tests/worked. A function without effect ensures each table, so that the gate proves it.
+ghost use Rattle.worked.specs.Flux.{FluxWorked};
+ghost use Rattle.worked.specs.Shares.{SharesWorked};
+ghost use Rattle.worked.specs.Interface.{InterfaceWorked};
+ghost use Rattle.worked.specs.Cfl.{CflWorked};
+ghost use Rattle.worked.specs.Steps.{StepsWorked};
+ghost use Rattle.worked.specs.Totals.{TotalsWorked};
+ghost use Rattle.worked.specs.Sheets.{SheetsWorked};
+ghost use Rattle.worked.specs.Grounds.{GroundsWorked};
+
+pub fn flux_worked()
+    ensures { λ _. ⌜ FluxWorked ⌝ }
+{}
+
+pub fn shares_worked()
+    ensures { λ _. ⌜ SharesWorked ⌝ }
+{}
+
+pub fn interface_worked()
+    ensures { λ _. ⌜ InterfaceWorked ⌝ }
+{}
+
+pub fn cfl_worked()
+    ensures { λ _. ⌜ CflWorked ⌝ }
+{}
+
+pub fn steps_worked()
+    ensures { λ _. ⌜ StepsWorked ⌝ }
+{}
+
+pub fn totals_worked()
+    ensures { λ _. ⌜ TotalsWorked ⌝ }
+{}
+
+pub fn sheets_worked()
+    ensures { λ _. ⌜ SheetsWorked ⌝ }
+{}
+
+pub fn grounds_worked()
+    ensures { λ _. ⌜ GroundsWorked ⌝ }
+{}

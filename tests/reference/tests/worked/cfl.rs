@@ -1,0 +1,43 @@
+//! X 1,000.
+
+use reference::flux::wave_speed;
+use reference::random::Record;
+use reference::{greatest_step, Book, End};
+
+use crate::{columns, step, WALL};
+
+fn one_cell(h: u64, q: i64, ends: [End; 2]) -> Record {
+    Record {
+        columns: columns(&[(0, h, q, 0, h)], &[0, 0]),
+        x: 1_000,
+        ends,
+        book: Book::default(),
+    }
+}
+
+/// t passes and the next is 11, and the greatest step is t at this place.
+fn equality(record: &Record, t: u16, place: u16) {
+    assert_eq!(step(&mut record.clone(), t).refusal, 0);
+    assert_eq!(step(&mut record.clone(), t + 1).refusal, 11);
+    let greatest = greatest_step(&record.columns, record.x, record.ends, record.book);
+    assert_eq!(greatest.refusal, 0);
+    assert_eq!(greatest.t, t.into());
+    assert_eq!(greatest.place, place.into());
+}
+
+#[test]
+fn cfl_at_equality() {
+    let fed = End {
+        kind: 2,
+        depth: 272_000,
+        ..WALL
+    };
+    let open = End { kind: 1, ..WALL };
+    assert_eq!(wave_speed(272_000), 2_000);
+    equality(&one_cell(272_000, 0, [WALL, WALL]), 500, 1);
+    equality(&one_cell(272_000, -136_000_000, [WALL, WALL]), 400, 1);
+    equality(&one_cell(100_000, 0, [fed, WALL]), 500, 0);
+    equality(&one_cell(272_000, 0, [fed, WALL]), 500, 0);
+    equality(&one_cell(100_000, 0, [WALL, fed]), 500, 2);
+    equality(&one_cell(272_000, 0, [open, WALL]), 500, 1);
+}
