@@ -241,16 +241,6 @@ momentum-flux-small {t} {X} {h} {a} {right} {left} g f =
     let l = f .left-most in
     momentum-flux-most t X h (subℕ right left) g (f .depth) (omega (arith, abs-sub right left))
 
-pub water-flux-small : {t X h a right left : ℕ} → Mesh t X → Flow h a right left → waterFlux t X h (subℕ right left) ≤ 640_000_000
-water-flux-small {t} {X} {h} {a} {right} {left} g f =
-    let r = f .right-most in
-    let l = f .left-most in
-    water-flux-most t X h (subℕ right left) g (f .depth) (omega (arith, abs-sub right left))
-
--- the flow of the mirrored side
-pub turned : {h a right left : ℕ} → Flow h a right left → Flow h a left right
-turned f = record { depth = f .depth; wave = f .wave; right-most = f .left-most; left-most = f .right-most }
-
 pub still-thrust-most : (t X h : ℕ) → Mesh t X → h ≤ depthMost → stillThrust t X h ≤ 20_480_000_000_000
 unfolding stillThrust
 still-thrust-most t X h g d = omega (arith, momentum-flux-most t X h (pos 0) g d (omega arith))

@@ -44,12 +44,6 @@ reduced-depth-is h z w =
 pub reduced-depth-le : (h : ℕ) (z w : ℤ) → reducedDepth h z w ≤ h
 reduced-depth-le h z w = omega (arith, reduced-depth-is h z w)
 
--- over a level bed nothing is taken off
-pub reduced-depth-level : (h : ℕ) (z : ℤ) → reducedDepth h z z ≡ h
-reduced-depth-level h z =
-    let f = minus-cross z z in
-    ⊎-elim (λ p. omega (arith, reduced-depth-is h z z)) (λ p. omega (arith, reduced-depth-is h z z)) (one-part (z -ℤ z))
-
 -- N by what either side sends
 pub net-water-is : (t X : ℕ) (l r : Side) → netWater t X l r
     ≡ subℕ (waterFlux t X (leftDepth l r) (l .velocity)) (waterFlux t X (rightDepth l r) (negℤ (r .velocity)))

@@ -2,3 +2,4 @@ pub mod PartsLaws
 pub mod GroundsLaws
 pub mod CarriedLaws
 pub mod Sound
+pub mod BalanceLaws

@@ -1,2 +1,1 @@
 pub mod StepCallLaws
-mod Says

@@ -1,2 +1,1 @@
 pub mod GreatestLaws
-mod Says

@@ -1,145 +1,100 @@
--- Demand 3 of the functions themselves: a list of calls is a chain whose links are the functions' own contracts, as they stand in src/
--- (`Post` of each function's `Reads`), and after every such chain from an accepted opening on, `Holds` says what holds.
+-- Demand 3 of the functions that are delivered, the six of include/jemmyfern.h: a list of calls is a chain whose links are their own contracts, and after every
+-- such chain from an accepted opening on, `Holds` says what holds.
 use mathlib.Core.Path.{_≡_}
 use mathlib.Core.List.{List, [], _∷_}
 use Prim.Native.Nat.{ℕ}
 use contract.Lifetimes.{Lfts}
-use denote.Ref.{RefT, now, at-last}
+use denote.Ref.{RefT, now}
 use lib.IntN.{ℤ}
 use lib.ListN.{length}
 use Rattle.reach.specs.Reach.{Reach, reachOf}
 use Rattle.reach.specs.declared.boundary.Boundary.{Boundary}
-use Rattle.reach.specs.declared.held.Held.{Held}
 use Rattle.transport.specs.declared.TransportAnswer.{TransportAnswer}
 use Rattle.timestep.specs.declared.GreatestAnswer.{GreatestAnswer}
 use Rattle.stepping.specs.declared.step.StepAnswer.{StepAnswer}
 use Rattle.sheet.specs.declared.opening.OpenAnswer.{OpenAnswer}
 use Rattle.writing.specs.declared.write.WriteAnswer.{WriteAnswer}
-use Rattle.tally.specs.Call.{Free, Call, Entry, stepCall, transportCall, boundariesCall, greatestCall, writeCall, openCall, goesOn}
+use Rattle.tally.specs.Call.{Free, Call, Entry, stepCall, transportCall, boundariesCall, greatestCall, writeCall, openCall, refusalOf, final, goesOn}
 use Rattle.tally.specs.Tally.{start, run}
 use Rattle.tally.specs.Holds.{Holds}
-use Rattle.stepping.proofs.step.step.Reads as step-reads
-use Rattle.timestep.proofs.greatest_step.Reads as greatest-reads
-use Rattle.transport.proofs.transport.Reads as transport-reads
-use Rattle.transport.proofs.set_boundaries.Reads as setting-reads
-use Rattle.sheet.proofs.opening.open_sheet.Reads as opening-reads
-use Rattle.writing.proofs.write.write_sheet.Reads as writing-reads
+use Rattle.jemmyfern_c.proofs.Functions.{Lent, given, OpenLeft, StepLeft, TransportLeft, OpenEnsures, StepEnsures, TransportEnsures, SettingEnsures, GreatestEnsures, WriteEnsures}
 
--- the columns as the caller lends them to a call
-pub record Lent : Type 0 where
-  pub bed : RefT (List ℤ)
-  pub depth : RefT (List ℕ)
-  pub discharge : RefT (List ℤ)
-  pub mass : RefT (List ℕ)
-  pub base : RefT (List ℕ)
-  pub carried : RefT (List ℤ)
+-- How to read a link from the record s to the record s'. l are the columns that the caller lends, κs the lifetimes of the loans, r what the function answers, e what
+-- stands in the columns that it may write when it has returned.
+--   lends    s is the record that the function is given: the lent columns as they stand, X, and boundaries and ledger as last handed back (`given`)
+--   ensured  the function's `ensures` of just these (`Post`), which computes to the call's definition: of a step `StepCameTo s t r ..`, that is
+--            r .refusal ≡ step s t .refusal and so on, field by field. `came`, in the contracts of src/lib.rt, is the record at entry: `given`
+--   left     s' is what stands in the columns, with X and what the function handed back
+-- f is what is free at every call on the record. The tally finds out by itself which calls are accepted, on its own record (`refusalOf` in `count`): it is the program's own
+-- answer, r .refusal (`SameAnswer`, below).
 
--- the record that a call is given: the columns and X as they stand, boundaries and ledger as last handed back
-abbrev pub given : Lent → Reach → Reach
-given l s = reachOf (now (l .bed)) (now (l .depth)) (now (l .discharge)) (now (l .mass)) (now (l .base)) (now (l .carried)) (s .cellLength) (s .held)
-
--- in each link: the lent columns are those of s (`lends`); the function answered r and left the columns with the values named here, as its
--- contract says (`ensured`); and s' is what stands in the columns after it, with X and what it handed back (`left`). f is what is free at every
--- call
-
--- a step of t
+-- jemmyfern_step, of t
 pub record StepLink (s : Reach) (f : Free) (t : ℕ) (s' : Reach) : Type 0 where
   pub κs : Lfts 6
   pub l : Lent
-  pub lends : s ≡ given l s
+  pub lends : s ≡ given l (s .cellLength) (s .held)
   pub r : StepAnswer
-  pub depth : List ℕ
-  pub discharge : List ℤ
-  pub mass : List ℕ
-  pub base : List ℕ
-  pub carried : List ℤ
-  pub ensured : step-reads.Post κs
-      (l .bed, (l .depth, (l .discharge, (l .mass, (l .base, (l .carried, (s .cellLength, (s .held, (t, tt)))))))))
-      r
-      (l .bed, (at-last (l .depth) depth, (at-last (l .discharge) discharge, (at-last (l .mass) mass, (at-last (l .base) base, (at-last (l .carried) carried, (s .cellLength, (s .held, (t, tt)))))))))
-  pub left : s' ≡ reachOf (now (l .bed)) depth discharge mass base carried (s .cellLength) (r .held)
+  pub e : StepLeft
+  pub ensured : StepEnsures κs l (s .cellLength) (s .held) t r e
+  pub left : s' ≡ reachOf (now (l .bed)) (e .depth) (e .discharge) (e .mass) (e .base) (e .carried) (s .cellLength) (r .held)
 
--- a transport
+-- jemmyfern_transport
 pub record TransportLink (s : Reach) (f : Free) (s' : Reach) : Type 0 where
   pub κs : Lfts 6
   pub l : Lent
-  pub lends : s ≡ given l s
+  pub lends : s ≡ given l (s .cellLength) (s .held)
   pub r : TransportAnswer
-  pub mass : List ℕ
-  pub base : List ℕ
-  pub carried : List ℤ
-  pub ensured : transport-reads.Post κs
-      (l .bed, (l .depth, (l .discharge, (l .mass, (l .base, (l .carried, (s .cellLength, (s .held, tt))))))))
-      r
-      (l .bed, (l .depth, (l .discharge, (at-last (l .mass) mass, (at-last (l .base) base, (at-last (l .carried) carried, (s .cellLength, (s .held, tt))))))))
-  pub left : s' ≡ reachOf (now (l .bed)) (now (l .depth)) (now (l .discharge)) mass base carried (s .cellLength) (r .held)
+  pub e : TransportLeft
+  pub ensured : TransportEnsures κs l (s .cellLength) (s .held) r e
+  pub left : s' ≡ reachOf (now (l .bed)) (now (l .depth)) (now (l .discharge)) (e .mass) (e .base) (e .carried) (s .cellLength) (r .held)
 
--- a setting of boundaries, given a new pair
-pub record BoundariesLink (s : Reach) (f : Free) (es : List Boundary) (s' : Reach) : Type 0 where
+-- jemmyfern_set_boundaries, given a new pair
+pub record BoundariesLink (s : Reach) (f : Free) (new : List Boundary) (s' : Reach) : Type 0 where
   pub κs : Lfts 6
   pub l : Lent
-  pub lends : s ≡ given l s
+  pub lends : s ≡ given l (s .cellLength) (s .held)
   pub r : TransportAnswer
-  pub mass : List ℕ
-  pub base : List ℕ
-  pub carried : List ℤ
-  pub ensured : setting-reads.Post κs
-      (l .bed, (l .depth, (l .discharge, (l .mass, (l .base, (l .carried, (s .cellLength, (s .held, (es, tt)))))))))
-      r
-      (l .bed, (l .depth, (l .discharge, (at-last (l .mass) mass, (at-last (l .base) base, (at-last (l .carried) carried, (s .cellLength, (s .held, (es, tt)))))))))
-  pub left : s' ≡ reachOf (now (l .bed)) (now (l .depth)) (now (l .discharge)) mass base carried (s .cellLength) (r .held)
+  pub e : TransportLeft
+  pub ensured : SettingEnsures κs l (s .cellLength) (s .held) new r e
+  pub left : s' ≡ reachOf (now (l .bed)) (now (l .depth)) (now (l .discharge)) (e .mass) (e .base) (e .carried) (s .cellLength) (r .held)
 
--- a greatest-step call
+-- jemmyfern_greatest_step
 pub record GreatestLink (s : Reach) (f : Free) (s' : Reach) : Type 0 where
   pub κs : Lfts 6
   pub l : Lent
-  pub lends : s ≡ given l s
+  pub lends : s ≡ given l (s .cellLength) (s .held)
   pub r : GreatestAnswer
-  pub ensured : greatest-reads.Post κs
-      (l .bed, (l .depth, (l .discharge, (l .mass, (l .base, (l .carried, (s .cellLength, (s .held, tt))))))))
-      r
-      (l .bed, (l .depth, (l .discharge, (l .mass, (l .base, (l .carried, (s .cellLength, (s .held, tt))))))))
-  pub left : s' ≡ reachOf (now (l .bed)) (now (l .depth)) (now (l .discharge)) (now (l .mass)) (now (l .base)) (now (l .carried)) (s .cellLength) (r .held)
+  pub ensured : GreatestEnsures κs l (s .cellLength) (s .held) r
+  pub left : s' ≡ given l (s .cellLength) (r .held)
 
--- a write into an output of `room` bytes, which is none of the columns
+-- jemmyfern_write, into an output of `room` bytes, which is none of the columns
 pub record WriteLink (s : Reach) (f : Free) (room : ℕ) (s' : Reach) : Type 0 where
   pub κs : Lfts 7
   pub l : Lent
-  pub lends : s ≡ given l s
+  pub lends : s ≡ given l (s .cellLength) (s .held)
   pub out : RefT (List ℕ)
   pub long : room ≡ length (now out)
   pub r : WriteAnswer
   pub written : List ℕ
-  pub ensured : writing-reads.Post κs
-      (l .bed, (l .depth, (l .discharge, (l .mass, (l .base, (l .carried, (s .cellLength, (s .held, (out, tt)))))))))
-      r
-      (l .bed, (l .depth, (l .discharge, (l .mass, (l .base, (l .carried, (s .cellLength, (s .held, (at-last out written, tt)))))))))
-  pub left : s' ≡ reachOf (now (l .bed)) (now (l .depth)) (now (l .discharge)) (now (l .mass)) (now (l .base)) (now (l .carried)) (s .cellLength) (r .held)
+  pub ensured : WriteEnsures κs l (s .cellLength) (s .held) out r written
+  pub left : s' ≡ given l (s .cellLength) (r .held)
 
--- an opening: 'a refused opening in between leaves the columns, and the list goes on with the ends and book it had'
+-- jemmyfern_open: 'a refused opening in between leaves the columns, and the list goes on with the ends and book it had'
 pub record OpenLink (s : Reach) (sheet : List ℕ) (s' : Reach) : Type 0 where
   pub κs : Lfts 7
   pub bytes : RefT (List ℕ)
   pub fed : sheet ≡ now bytes
   pub l : Lent
-  pub lends : s ≡ given l s
+  pub lends : s ≡ given l (s .cellLength) (s .held)
   pub r : OpenAnswer
-  pub bed : List ℤ
-  pub depth : List ℕ
-  pub discharge : List ℤ
-  pub mass : List ℕ
-  pub base : List ℕ
-  pub carried : List ℤ
-  pub ensured : opening-reads.Post κs
-      (bytes, (l .bed, (l .depth, (l .discharge, (l .mass, (l .base, (l .carried, tt)))))))
-      r
-      (bytes, (at-last (l .bed) bed, (at-last (l .depth) depth, (at-last (l .discharge) discharge, (at-last (l .mass) mass, (at-last (l .base) base, (at-last (l .carried) carried, tt)))))))
-  pub left : s' ≡ goesOn s r bed depth discharge mass base carried
+  pub e : OpenLeft
+  pub ensured : OpenEnsures κs bytes l r e
+  pub left : s' ≡ goesOn s r (e .bed) (e .depth) (e .discharge) (e .mass) (e .base) (e .carried)
 
 abbrev pub Link : Reach → Free → Call → Reach → Type 0
 Link s f (stepCall t) s' = StepLink s f t s'
 Link s f transportCall s' = TransportLink s f s'
-Link s f (boundariesCall es) s' = BoundariesLink s f es s'
+Link s f (boundariesCall new) s' = BoundariesLink s f new s'
 Link s f greatestCall s' = GreatestLink s f s'
 Link s f (writeCall room) s' = WriteLink s f room s'
 Link s f (openCall sheet) s' = OpenLink s sheet s'
@@ -160,18 +115,43 @@ Demand3 =
     Chain opened es after →
     Holds (run (start sheet) es) after
 
--- Demand 1, 'every .. within document 01's limits is accepted': no call asks anything of what it is given (`Pre`). With a condition of its
--- own, a call's contract would be met by a function that was never made for the rest.
-pub record AsksNothing : Type 0 where
-  pub step : (κs : Lfts 6) (l : Lent) (X : ℕ) (k : Held) (t : ℕ)
-      → step-reads.Pre κs (l .bed, (l .depth, (l .discharge, (l .mass, (l .base, (l .carried, (X, (k, (t, tt)))))))))
-  pub transport : (κs : Lfts 6) (l : Lent) (X : ℕ) (k : Held)
-      → transport-reads.Pre κs (l .bed, (l .depth, (l .discharge, (l .mass, (l .base, (l .carried, (X, (k, tt))))))))
-  pub set-boundaries : (κs : Lfts 6) (l : Lent) (X : ℕ) (k : Held) (new : List Boundary)
-      → setting-reads.Pre κs (l .bed, (l .depth, (l .discharge, (l .mass, (l .base, (l .carried, (X, (k, (new, tt)))))))))
-  pub greatest-step : (κs : Lfts 6) (l : Lent) (X : ℕ) (k : Held)
-      → greatest-reads.Pre κs (l .bed, (l .depth, (l .discharge, (l .mass, (l .base, (l .carried, (X, (k, tt))))))))
-  pub write : (κs : Lfts 7) (l : Lent) (X : ℕ) (k : Held) (out : RefT (List ℕ))
-      → writing-reads.Pre κs (l .bed, (l .depth, (l .discharge, (l .mass, (l .base, (l .carried, (X, (k, (out, tt)))))))))
-  pub opening : (κs : Lfts 7) (sheet : RefT (List ℕ)) (l : Lent)
-      → opening-reads.Pre κs (sheet, (l .bed, (l .depth, (l .discharge, (l .mass, (l .base, (l .carried, tt)))))))
+-- It is of every list: from every record, every list of calls has a chain, to the record that the definitions give. (A link that nothing inhabits would
+-- make `Demand3` say nothing of a list that has it.)
+abbrev pub EveryChain : Type 0
+EveryChain = (s : Reach) (es : List Entry) → Chain s es (final s es)
+
+-- and of every call, whatever loans, lifetimes and output it is given: a link asks no more than that s is what was lent and that the function ensured what it ensures
+pub record EveryCall : Type 0 where
+  pub step : (s : Reach) (f : Free) (t : ℕ) (κs : Lfts 6) (l : Lent) (r : StepAnswer) (e : StepLeft) → s ≡ given l (s .cellLength) (s .held)
+      → StepEnsures κs l (s .cellLength) (s .held) t r e
+      → StepLink s f t (reachOf (now (l .bed)) (e .depth) (e .discharge) (e .mass) (e .base) (e .carried) (s .cellLength) (r .held))
+  pub transport : (s : Reach) (f : Free) (κs : Lfts 6) (l : Lent) (r : TransportAnswer) (e : TransportLeft) → s ≡ given l (s .cellLength) (s .held)
+      → TransportEnsures κs l (s .cellLength) (s .held) r e
+      → TransportLink s f (reachOf (now (l .bed)) (now (l .depth)) (now (l .discharge)) (e .mass) (e .base) (e .carried) (s .cellLength) (r .held))
+  pub set-boundaries : (s : Reach) (f : Free) (new : List Boundary) (κs : Lfts 6) (l : Lent) (r : TransportAnswer) (e : TransportLeft) → s ≡ given l (s .cellLength) (s .held)
+      → SettingEnsures κs l (s .cellLength) (s .held) new r e
+      → BoundariesLink s f new (reachOf (now (l .bed)) (now (l .depth)) (now (l .discharge)) (e .mass) (e .base) (e .carried) (s .cellLength) (r .held))
+  pub greatest-step : (s : Reach) (f : Free) (κs : Lfts 6) (l : Lent) (r : GreatestAnswer) → s ≡ given l (s .cellLength) (s .held)
+      → GreatestEnsures κs l (s .cellLength) (s .held) r → GreatestLink s f (given l (s .cellLength) (r .held))
+  pub write : (s : Reach) (f : Free) (κs : Lfts 7) (l : Lent) (out : RefT (List ℕ)) (r : WriteAnswer) (written : List ℕ) → s ≡ given l (s .cellLength) (s .held)
+      → WriteEnsures κs l (s .cellLength) (s .held) out r written → WriteLink s f (length (now out)) (given l (s .cellLength) (r .held))
+  pub opening : (s : Reach) (κs : Lfts 7) (sheet : RefT (List ℕ)) (l : Lent) (r : OpenAnswer) (e : OpenLeft) → s ≡ given l (s .cellLength) (s .held)
+      → OpenEnsures κs sheet l r e → OpenLink s (now sheet) (goesOn s r (e .bed) (e .depth) (e .discharge) (e .mass) (e .base) (e .carried))
+
+-- what the function of a link answered: 0 or the number of its refusal
+abbrev pub answer : (s : Reach) (f : Free) (c : Call) (s' : Reach) → Link s f c s' → ℕ
+answer s f (stepCall t) s' k = k .r .refusal
+answer s f transportCall s' k = k .r .refusal
+answer s f (boundariesCall new) s' k = k .r .refusal
+answer s f greatestCall s' k = k .r .refusal
+answer s f (writeCall room) s' k = k .r .refusal
+answer s f (openCall sheet) s' k = k .r .refusal
+
+-- After every list, the tally's 'accepted' or 'refused' of a next call is the program's own answer to it.
+abbrev pub SameAnswer : Type 0
+SameAnswer =
+    (sheet : List ℕ) (es : List Entry) (before opened s s' : Reach) (f : Free) (c : Call) →
+    (first : OpenLink before sheet opened) → first .r .refusal ≡ 0 →
+    Chain opened es s →
+    (k : Link s f c s') →
+    answer s f c s' k ≡ refusalOf (run (start sheet) es .own) f c

@@ -1,11 +1,16 @@
-// Demand 3: what holds after every list of calls of the functions themselves; and that none of them asks anything of its caller.
-ghost use Rattle.trace.specs.Trace.{Demand3, AsksNothing};
+// Demand 3: what holds after every list of calls of the delivered functions; that every list has its chain, and that the tally judges each call as the program does.
+ghost use Rattle.trace.specs.Trace.{Demand3, EveryChain, EveryCall, SameAnswer};
 
 // No effect: the crate is proved only with the theorem.
 pub fn demand_3()
     ensures { λ _. ⌜ Demand3 ⌝ }
 {}
 
-pub fn asks_nothing()
-    ensures { λ _. ⌜ AsksNothing ⌝ }
+pub fn every_chain()
+    ensures { λ _. ⌜ EveryChain ⌝ }
+    ensures { λ _. ⌜ EveryCall ⌝ }
+{}
+
+pub fn same_answer()
+    ensures { λ _. ⌜ SameAnswer ⌝ }
 {}

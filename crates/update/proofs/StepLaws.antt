@@ -362,24 +362,3 @@ step-stands-again s t gs e g =
     (λ n p z. absurd (omega arith))
     (λ k c d l z. stands (afterStep s t) gs (stepped-sound s k t c d l) g)
     e
-
--- the formula for h' gives no less than 0 in an accepted step
-pub accepted-depths : (s : Reach) (t : ℕ) → step s t .refusal ≡ 0 → (i : ℕ) → i < cells s → newDepth s t i ≡ pos (positive (newDepth s t i))
-accepted-depths s t e i l =
-    by-step s t (λ o. o .refusal ≡ 0 → newDepth s t i ≡ pos (positive (newDepth s t i)))
-    (λ n p z. absurd (omega arith))
-    (λ k c d f z. depth-not-negative s k t c i l)
-    e
-
--- water and mass balance against the ledger, and bounds are kept, accepted or refused
-pub water-balanced : (s : Reach) (t : ℕ) → WaterBalanced s (step s t .reach)
-unfolding WaterBalanced
-water-balanced s t = by-step s t (λ o. WaterBalanced s (o .reach)) (λ n p. omega arith) (λ k c d l. step-water-balanced s k t c)
-
-pub mass-balanced : (s : Reach) (t : ℕ) → MassBalanced s (step s t .reach)
-unfolding MassBalanced
-mass-balanced s t = by-step s t (λ o. MassBalanced s (o .reach)) (λ n p. omega arith) (λ k c d l. step-mass-balanced s k t)
-
-pub within : (s : Reach) (t : ℕ) (lo hi : ℤ) → CellsWithin (everywhere lo) (everywhere hi) s → BoundariesWithin (everywhere lo) (everywhere hi) (cells s) (s .held .boundaries)
-    → CellsWithin (everywhere lo) (everywhere hi) (step s t .reach)
-within s t lo hi w e = by-step s t (λ o. CellsWithin (everywhere lo) (everywhere hi) (o .reach)) (λ n p. w) (λ k c d l. step-within s k t lo hi w e)

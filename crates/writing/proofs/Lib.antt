@@ -1,3 +1,3 @@
 pub mod WritingLaws
 pub mod RoundTripLaws
-mod Says
+pub mod RoundTripUses

@@ -93,7 +93,7 @@ pub record Headed (t : List ℕ) (n X : ℕ) (es : List Boundary) : Type 0 where
   pub left : boundaryAt t 32 ≡ leftBoundary es
   pub right : boundaryAt t 56 ≡ rightBoundary es
 
-pub header-back : (n X : ℕ) (es : List Boundary) (q : List ℕ) → n ≤ cellsMost → X ≤ cellLengthMost → boundariesFit es ≡ true
+header-back : (n X : ℕ) (es : List Boundary) (q : List ℕ) → n ≤ cellsMost → X ≤ cellLengthMost → boundariesFit es ≡ true
     → Headed (headerBytes n X es ++ q) n X es
 unfolding headerBytes sheetSize boundariesFit
 header-back n X es q few x f =

@@ -1,0 +1,240 @@
+-- Demand 2 from the contracts of the six functions and the round trip.
+use mathlib.Core.Path.{_≡_, refl, sym, ap, _∙_, subst}
+use mathlib.Core.Bool.{Bool, true, false, cond, _&&_, not}
+use mathlib.Core.List.{List, [], _∷_, _++_}
+use Prim.Native.Nat.{ℕ, zero, suc, _+_, _*_, _≤_, _<_}
+use native.Mathlib.Omega.{arith}
+use borrow.Author.Tests.{le-leb, leb-true}
+use denote.Ref.{now}
+use lib.Dec.{leb, eqb}
+use lib.IntN.{ℤ, pos, negℤ, _+ℤ_, +ℤ-idl}
+use lib.ListN.{length, getD, take, drop, replicate}
+use Rattle.numbers.specs.Index.{allBelow}
+use Rattle.numbers.specs.Signed.{positive}
+use Rattle.numbers.proofs.IndexLaws.{all-at, all-below, getD-tabulate}
+use Rattle.reach.specs.Reach.{Reach, cells, baseAt, carriedAt}
+use Rattle.reach.specs.Parts.{outflow}
+use Rattle.reach.specs.Grounds.{Ground, firstRefusal, numberOf, recordGrounds}
+use Rattle.reach.specs.Outcome.{Outcome, outcome}
+use Rattle.reach.specs.declared.boundary.Boundary.{Boundary}
+use Rattle.reach.specs.declared.held.Held.{Held}
+use Rattle.reach.specs.declared.refusal.Check.{Check}
+use Rattle.reach.specs.declared.refusal.Check.the-variants.{Pass, Refused}
+use Rattle.reach.proofs.GroundsLaws.{numbered, refused-number}
+use Rattle.reach.proofs.PartsLaws.{outflow-is}
+use Rattle.transport.specs.Calls.{transportGrounds, transport, setBoundaries, afterTransport, holding}
+use Rattle.transport.proofs.CallsLaws.{left-by-setting, left-by-transport}
+use Rattle.timestep.specs.GreatestStep.{greatest, greatestBy, greatestTime, greatestPlace}
+use Rattle.timestep.specs.declared.GreatestAnswer.{GreatestAnswer}
+use Rattle.water.specs.Water.{netAt}
+use Rattle.update.specs.Step.{stepGrounds, step, afterStep, transportedFirst, transports, keepsSums, summed}
+use Rattle.stepping.specs.StepCall.{StepCameTo}
+use Rattle.stepping.specs.declared.step.StepAnswer.{StepAnswer}
+use Rattle.stepping.proofs.StepCallLaws.{left-by-step}
+use Rattle.sheet.specs.Header.{sheetSize}
+use Rattle.sheet.specs.Opening.{openGrounds, noneHeld, opening, sheetRecord, OpenCameTo}
+use Rattle.sheet.specs.declared.opening.OpenAnswer.{OpenAnswer}
+use Rattle.sheet.proofs.OpeningLaws.{left-by-opening}
+use Rattle.encoding.specs.ToBytes.{written}
+use Rattle.writing.specs.Writing.{sheetBytes, writeRefusal, outputAfter, outputBy}
+use Rattle.writing.specs.RoundTrip.{withEmptyLedger}
+use Rattle.writing.proofs.RoundTripUses.{write-passes, write-then-open, open-then-write}
+use Rattle.jemmyfern_c.proofs.Functions.{given, OpenLeft, StepLeft}
+use Rattle.demands.specs.Demand2.{Covered, Kept, NotKept, DigitForDigit, ReadBack, WroteAgain}
+
+-- a call that answers 0 stood all its grounds, since none of them has the number 0
+stood-all : (gs : List Ground) → numbered gs ≡ true → numberOf (firstRefusal gs) ≡ 0 → firstRefusal gs ≡ Pass
+stood-all gs m = go (firstRefusal gs) refl
+  where
+    go : (k : Check) → firstRefusal gs ≡ k → numberOf k ≡ 0 → k ≡ Pass
+    go Pass e z = refl
+    go (Refused n) e z = absurd (omega (arith, z, refused-number gs n m e))
+
+number : (k : Check) (s t : Reach) → numberOf k ≡ outcome k s t .refusal
+number Pass s t = refl
+number (Refused n) s t = refl
+
+moved : (gs : List Ground) (s t : Reach) → numbered gs ≡ true → outcome (firstRefusal gs) s t .refusal ≡ 0 → outcome (firstRefusal gs) s t .reach ≡ t
+moved gs s t m z = ap (λ (k : Check). outcome k s t .reach) (stood-all gs m (number (firstRefusal gs) s t ∙ z))
+
+opened-is : (sheet : List ℕ) (l : Reach) → opening sheet l .refusal ≡ 0 → opening sheet l .reach ≡ sheetRecord sheet
+unfolding opening numbered
+opened-is sheet l =
+    moved (openGrounds sheet (length (l .bed)) (length (l .depth)) (length (l .discharge)) (length (l .mass)) (length (l .base)) (length (l .carried))) l (sheetRecord sheet) refl
+
+pub stepped-is : (s : Reach) (t : ℕ) → step s t .refusal ≡ 0 → step s t .reach ≡ afterStep s t
+unfolding step numbered
+stepped-is s t = moved (stepGrounds s t) s (afterStep s t) refl
+
+transported-is : (s : Reach) → transport s .refusal ≡ 0 → transport s .reach ≡ afterTransport s
+unfolding transport numbered
+transported-is s = moved (transportGrounds s (s .held .boundaries)) s (afterTransport s) refl
+
+set-is : (s : Reach) (new : List Boundary) → setBoundaries s new .refusal ≡ 0 → setBoundaries s new .reach ≡ holding new (afterTransport s)
+unfolding setBoundaries numbered
+set-is s new = moved (transportGrounds s new) s (holding new (afterTransport s)) refl
+
+-- ---- the moment of settling
+
+covered-is : (s : Reach) (t i : ℕ)
+    → outflow (summed s t i) (summed s t (suc i)) ≡ positive (carriedAt s (i + 1) +ℤ netAt s t (i + 1)) + positive (negℤ (carriedAt s i +ℤ netAt s t i))
+unfolding summed
+covered-is s t i = let e : suc i ≡ i + 1 = omega arith in rw e (outflow-is _ _)
+
+-- cell by cell, what the test of a step looks at
+abbrev test : Reach → (t i : ℕ) → Bool
+test s t i = leb (outflow (summed s t i) (summed s t (suc i))) (baseAt s i)
+
+pub keeps : (s : Reach) (t : ℕ) → ((i : ℕ) → i < cells s → Covered s t i) → keepsSums s t ≡ true
+unfolding keepsSums
+keeps s t f = all-below (test s t) (cells s) (λ i l. le-leb (outflow (summed s t i) (summed s t (suc i))) (baseAt s i) (omega (arith, f i l, covered-is s t i)))
+
+pub keeps-not : (s : Reach) (t i : ℕ) → i < cells s → (Covered s t i → ⊥) → keepsSums s t ≡ false
+unfolding keepsSums
+keeps-not s t i l ne = go (allBelow (cells s) (test s t)) refl
+  where
+    go : (b : Bool) → allBelow (cells s) (test s t) ≡ b → b ≡ false
+    go true e = absurd (ne (omega (arith, leb-true (outflow (summed s t i) (summed s t (suc i))) (baseAt s i) (all-at (test s t) (cells s) i e l), covered-is s t i)))
+    go false e = refl
+
+says-kept : (s : Reach) (t : ℕ) → step s t .refusal ≡ 0 → keepsSums s t ≡ true → transports s t ≡ false
+unfolding transports
+says-kept s t z e = rw (z, e) refl
+
+says-transported : (s : Reach) (t : ℕ) → step s t .refusal ≡ 0 → keepsSums s t ≡ false → transports s t ≡ true
+unfolding transports
+says-transported s t z e = rw (z, e) refl
+
+-- what a step leaves of the record that N is added to
+first-kept : (s : Reach) (t : ℕ) → keepsSums s t ≡ true → transportedFirst s t ≡ s
+unfolding transportedFirst
+first-kept s t e = rw e refl
+
+first-transported : (s : Reach) (t : ℕ) → keepsSums s t ≡ false → transportedFirst s t ≡ afterTransport s
+unfolding transportedFirst
+first-transported s t e = rw e refl
+
+stepped-mass : (s : Reach) (t : ℕ) → (afterStep s t .mass ≡ transportedFirst s t .mass) × (afterStep s t .base ≡ transportedFirst s t .base)
+unfolding afterStep
+stepped-mass s t = (refl, refl)
+
+stepped-carried : (s : Reach) (t i : ℕ) → i ≤ cells s → getD (afterStep s t .carried) i (pos 0) ≡ carriedAt (transportedFirst s t) i +ℤ netAt s t i
+unfolding afterStep
+stepped-carried s t i l = getD-tabulate (suc (cells s)) (λ j. carriedAt (transportedFirst s t) j +ℤ netAt s t j) i (pos 0) (omega (arith, l))
+
+transported-base : (s : Reach) → afterTransport s .base ≡ s .depth
+unfolding afterTransport
+transported-base s = refl
+
+getD-zeros : (n i : ℕ) → getD (replicate n (pos 0)) i (pos 0) ≡ pos 0
+getD-zeros zero i = refl
+getD-zeros (suc n) zero = refl
+getD-zeros (suc n) (suc i) = getD-zeros n i
+
+none-carried : (s : Reach) (i : ℕ) → carriedAt (afterTransport s) i ≡ pos 0
+unfolding afterTransport
+none-carried s i = getD-zeros (length (s .carried)) i
+
+kept-is : (s : Reach) (t : ℕ) {r : StepAnswer} {e : StepLeft} → StepCameTo s t r (e .depth) (e .discharge) (e .mass) (e .base) (e .carried) → r .refusal ≡ 0
+    → ((i : ℕ) → i < cells s → Covered s t i) → Kept s t r e
+kept-is s t k z f =
+    let a = sym (k .refusal-is) ∙ z in
+    let same = stepped-is s t a in
+    let w = keeps s t f in
+    let first = first-kept s t w in
+    record {
+      said = k .transported-is ∙ says-kept s t a w;
+      mass = k .mass-is ∙ ap (λ (x : Reach). x .mass) same ∙ stepped-mass s t .0 ∙ ap (λ (x : Reach). x .mass) first;
+      base = k .base-is ∙ ap (λ (x : Reach). x .base) same ∙ stepped-mass s t .1 ∙ ap (λ (x : Reach). x .base) first;
+      carried = λ i l.
+          ap (λ (c : List ℤ). getD c i (pos 0)) (k .carried-is ∙ ap (λ (x : Reach). x .carried) same)
+          ∙ stepped-carried s t i l
+          ∙ ap (λ (x : Reach). carriedAt x i +ℤ netAt s t i) first;
+    }
+
+not-kept-is : (s : Reach) (t : ℕ) {r : StepAnswer} {e : StepLeft} → StepCameTo s t r (e .depth) (e .discharge) (e .mass) (e .base) (e .carried) → r .refusal ≡ 0
+    → (i : ℕ) → i < cells s → (Covered s t i → ⊥) → NotKept s t r e
+not-kept-is s t k z i l ne =
+    let a = sym (k .refusal-is) ∙ z in
+    let same = stepped-is s t a in
+    let w = keeps-not s t i l ne in
+    let first = first-transported s t w in
+    record {
+      said = k .transported-is ∙ says-transported s t a w;
+      mass = k .mass-is ∙ ap (λ (x : Reach). x .mass) same ∙ stepped-mass s t .0 ∙ ap (λ (x : Reach). x .mass) first;
+      base = k .base-is ∙ ap (λ (x : Reach). x .base) same ∙ stepped-mass s t .1 ∙ ap (λ (x : Reach). x .base) first ∙ transported-base s;
+      carried = λ j m.
+          ap (λ (c : List ℤ). getD c j (pos 0)) (k .carried-is ∙ ap (λ (x : Reach). x .carried) same)
+          ∙ stepped-carried s t j m
+          ∙ ap (λ (x : Reach). carriedAt x j +ℤ netAt s t j) first
+          ∙ ap (λ (c : ℤ). c +ℤ netAt s t j) (none-carried s j)
+          ∙ +ℤ-idl (netAt s t j);
+    }
+
+-- ---- the answers of an accepted greatest-step call and of a write
+
+greatest-number : (s : Reach) (k : Check) → numberOf k ≡ greatestBy k s .refusal
+greatest-number s Pass = refl
+greatest-number s (Refused n) = refl
+
+pub greatest-stood : (s : Reach) → greatest s .refusal ≡ 0 → firstRefusal (recordGrounds s (s .held .boundaries)) ≡ Pass
+unfolding greatest numbered
+greatest-stood s z =
+    let gs = recordGrounds s (s .held .boundaries) in
+    stood-all gs refl (greatest-number s (firstRefusal gs) ∙ z)
+
+pub greatest-is : (s : Reach) → greatest s .refusal ≡ 0 → greatest s ≡ record { refusal = 0; held = s .held; time = greatestTime s; place = greatestPlace s }
+unfolding greatest
+greatest-is s z = ap (λ (k : Check). greatestBy k s) (greatest-stood s z)
+
+output-is : (s : Reach) (out : List ℕ) → writeRefusal s (length out) ≡ Pass → outputAfter s out ≡ sheetBytes s ++ drop (length (sheetBytes s)) out
+unfolding outputAfter written
+output-is s out e = ap (λ (k : Check). outputBy k s out) e
+
+pub digit-for-digit : DigitForDigit
+digit-for-digit = record {
+  opening = λ κs sheet l r e k z. left-by-opening k ∙ opened-is (now sheet) (given l 0 noneHeld) (sym (k .refusal-is) ∙ z);
+  step = λ κs l X h t r e k z. left-by-step (given l X h) t k ∙ stepped-is (given l X h) t (sym (k .refusal-is) ∙ z);
+  kept = λ κs l X h t r e k z f. kept-is (given l X h) t k z f;
+  not-kept = λ κs l X h t r e k z i l' ne. not-kept-is (given l X h) t k z i l' ne;
+  transport = λ κs l X h r e k z. left-by-transport (given l X h) k ∙ transported-is (given l X h) (sym (k .refusal-is) ∙ z);
+  set-boundaries = λ κs l X h new r e k z. left-by-setting (given l X h) new k ∙ set-is (given l X h) new (sym (k .refusal-is) ∙ z);
+  greatest-step = λ κs l X h r k z. k ∙ greatest-is (given l X h) (sym (ap (λ (a : GreatestAnswer). a .refusal) k) ∙ z);
+  write = λ κs l X h out r w k z. (k .held-is, k .output-is ∙ output-is (given l X h) (now out) (write-passes (given l X h) (length (now out)) (sym (k .refusal-is) ∙ z)));
+}
+
+-- ---- the round trip
+
+-- every field of the answer and every column of an opening, of what it came to
+came-to : (n : ℕ) (s : Reach) {r : OpenAnswer} {e : OpenLeft} → OpenCameTo (record { refusal = n; reach = s }) r (e .bed) (e .depth) (e .discharge) (e .mass) (e .base) (e .carried)
+    → (r ≡ record { refusal = n; «cell_length» = s .cellLength; held = s .held })
+    × (e ≡ record { bed = s .bed; depth = s .depth; discharge = s .discharge; mass = s .mass; base = s .base; carried = s .carried })
+came-to n s {r} {e} k = (
+  answer r n (s .cellLength) (s .held) (k .refusal-is) (k .length-is) (k .held-is),
+  columns e (s .bed) (s .depth) (s .discharge) (s .mass) (s .base) (s .carried) (k .bed-is) (k .depth-is) (k .discharge-is) (k .mass-is) (k .base-is) (k .carried-is),
+)
+  where
+    answer : (r : OpenAnswer) (n x : ℕ) (h : Held) → r .refusal ≡ n → r .«cell_length» ≡ x → r .held ≡ h → r ≡ record { refusal = n; «cell_length» = x; held = h }
+    answer r n x h p q o = rw (sym p, sym q, sym o) refl
+
+    columns : (e : OpenLeft) (z : List ℤ) (d : List ℕ) (q : List ℤ) (m b : List ℕ) (c : List ℤ) → e .bed ≡ z → e .depth ≡ d → e .discharge ≡ q → e .mass ≡ m → e .base ≡ b → e .carried ≡ c
+        → e ≡ record { bed = z; depth = d; discharge = q; mass = m; base = b; carried = c }
+    columns e z d q m b c pz pd pq pm pb pc = rw (sym pz, sym pd, sym pq, sym pm, sym pb, sym pc) refl
+
+pub read-back : ReadBack
+unfolding sheetSize
+read-back κs κs' l l' X h out sheet w w' r e two k z same f o =
+    let s = given l X h in
+    let lent = given l' 0 noneHeld in
+    let back : opening (now sheet) lent ≡ record { refusal = 0; reach = withEmptyLedger s }
+    = ap (λ (b : List ℕ). opening b lent) same
+    ∙ write-then-open s (now out) k z two lent
+    (record { beds = f .bed; depths = f .depth; discharges = f .discharge; masses = f .mass; bases = f .base; interfaces = f .carried }) in
+    came-to 0 (withEmptyLedger s) (subst (λ (x : Outcome). OpenCameTo x r (e .bed) (e .depth) (e .discharge) (e .mass) (e .base) (e .carried)) back o)
+
+pub wrote-again : WroteAgain
+unfolding written
+wrote-again κs κs' sheet out l l' r e w w' bytes beds depths masses o z same room k =
+    open-then-write (now sheet) (given l 0 noneHeld) (given l' (r .«cell_length») (r .held)) (now out) bytes
+    (record { beds-first = beds; depths-next = depths; masses-last = masses })
+    (sym (o .refusal-is) ∙ z) (same ∙ left-by-opening o) room k

@@ -1,0 +1,5 @@
+pub mod Demand1Laws
+pub mod Demand2Laws
+pub mod Demand3Laws
+pub mod LimitsLaws
+pub mod ModelLaws

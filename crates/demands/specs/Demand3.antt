@@ -1,0 +1,132 @@
+-- Demand 3, sentence by sentence, of the six functions of include/jemmyfern.h: what holds after every list of calls, in plain sums over the lent columns and the totals that were
+-- last handed back, and in inequalities of single cells. T is the tally, a machine of its own that is fed the sheet and the list.
+use mathlib.Core.Path.{_≡_}
+use mathlib.Core.List.{List, [], _∷_}
+use Prim.Native.Nat.{ℕ, _+_, _-_, _*_, _<_}
+use lib.IntN.{ℤ, pos, negℤ, _+ℤ_, _-ℤ_, _*ℤ_}
+use lib.ListN.{length, getD}
+use lib.Signed.{_≤ℤ_}
+use Rattle.numbers.specs.Index.{sum}
+use Rattle.numbers.specs.Signed.{positive}
+use Rattle.reach.specs.Reach.{Reach, leftBoundary, rightBoundary}
+use Rattle.reach.specs.declared.boundary.Boundary.{Boundary}
+use Rattle.reach.specs.declared.ledger.Ledger.{Ledger}
+use Rattle.mass.specs.Transport.{leftShare, rightShare}
+use Rattle.transport.specs.Calls.{massColumnsOf}
+use Rattle.water.specs.Water.{netAt}
+use Rattle.sheet.specs.Opening.{sheetRecord}
+use Rattle.tally.specs.Call.{Free, Call, Entry, stepCall, transportCall, boundariesCall, greatestCall, writeCall, openCall, refusalOf}
+use Rattle.tally.specs.Tally.{Tally, start, count, run}
+use Rattle.tally.specs.Holds.{Each}
+use Rattle.trace.specs.Trace.{OpenLink, StepLink, Chain}
+use Rattle.demands.specs.Demand1.{zeroLedger}
+use Rattle.demands.specs.Demand2.{Covered}
+
+-- 'any two whole numbers that bound': m of every cell, against the depth at its last settling
+abbrev pub CellsBounded : (lo hi : ℤ) → Reach → Type 0
+CellsBounded lo hi s =
+    (i : ℕ) → i < length (s .bed) →
+    ((lo *ℤ pos (getD (s .base) i 0)) ≤ℤ pos (getD (s .mass) i 0)) × (pos (getD (s .mass) i 0) ≤ℤ (hi *ℤ pos (getD (s .base) i 0)))
+
+-- the concentration of an end, if it is not a wall (kind 0)
+abbrev pub BoundaryBounded : (lo hi : ℤ) → Boundary → Type 0
+BoundaryBounded lo hi b = (b .kind ≡ 0 → ⊥) → (lo ≤ℤ pos (b .concentration)) × (pos (b .concentration) ≤ℤ hi)
+
+abbrev pub PairBounded : (lo hi : ℤ) → List Boundary → Type 0
+PairBounded lo hi pair = BoundaryBounded lo hi (leftBoundary pair) × BoundaryBounded lo hi (rightBoundary pair)
+
+-- `ledger` is the book that was last handed back
+pub record AfterList (T : Tally) (s : Reach) (ledger : Ledger) : Type 0 where
+  -- 'the water held equals the opening water plus what the ends let in less what they let out': held and let out are what there was and was let in
+  pub water : sum (s .depth) + (ledger .left .«water_out» + ledger .right .«water_out») ≡ sum (T .initial .depth) + (ledger .left .«water_in» + ledger .right .«water_in»)
+  -- 'and the nutrient likewise'
+  pub mass : sum (s .mass) + (ledger .left .«mass_out» + ledger .right .«mass_out») ≡ sum (T .initial .mass) + (ledger .left .«mass_in» + ledger .right .«mass_in»)
+  -- 'added up from the steps themselves .. from the settlings; the book's totals equal those sums'
+  pub left-water-in : ledger .left .«water_in» ≡ T .sums .left .«water_in»
+  pub left-water-out : ledger .left .«water_out» ≡ T .sums .left .«water_out»
+  pub left-mass-in : ledger .left .«mass_in» ≡ T .sums .left .«mass_in»
+  pub left-mass-out : ledger .left .«mass_out» ≡ T .sums .left .«mass_out»
+  pub right-water-in : ledger .right .«water_in» ≡ T .sums .right .«water_in»
+  pub right-water-out : ledger .right .«water_out» ≡ T .sums .right .«water_out»
+  pub right-mass-in : ledger .right .«mass_in» ≡ T .sums .right .«mass_in»
+  pub right-mass-out : ledger .right .«mass_out» ≡ T .sums .right .«mass_out»
+  -- 'any two whole numbers that bound the concentration of every opening cell and of every end but a wall held or set since still bound each cell'
+  pub bounds : (lo hi : ℤ) → CellsBounded lo hi (T .initial) → Each (PairBounded lo hi) (T .held) → CellsBounded lo hi s
+
+-- 'For every list of .. calls .. from an accepted opening on, refused ones included, whatever times, ends and outputs they are given, each call getting the record, ends and book
+-- as the last left them'
+abbrev pub AfterEveryList : Type 0
+AfterEveryList =
+    (sheet : List ℕ) (es : List Entry) (before opened after : Reach) (first : OpenLink before sheet opened) →
+    first .r .refusal ≡ 0 →
+    Chain opened es after →
+    AfterList (run (start sheet) es) after (after .held .ledger)
+
+-- 'no depth is below zero': after every such list, a step that is accepted leaves in each cell the depth h + N(left) − N(right), as a whole number that is not negative
+abbrev pub NoDepthBelowZero : Type 0
+NoDepthBelowZero =
+    (sheet : List ℕ) (es : List Entry) (before opened s s' : Reach) (f : Free) (t : ℕ) (first : OpenLink before sheet opened) →
+    first .r .refusal ≡ 0 →
+    Chain opened es s →
+    (link : StepLink s f t s') →
+    link .r .refusal ≡ 0 →
+    (i : ℕ) → i < length (s .bed) →
+    pos (getD (s' .depth) i 0) ≡ pos (getD (s .depth) i 0) +ℤ netAt s t i -ℤ netAt s t (i + 1)
+
+-- ---- the tally's sums, from a ledger k to a ledger k'
+
+-- 'Accepted step, N at interface 0: left water in gains max(N,0), left water out max(−N,0); N at interface n: right water in gains max(−N,0), right water out max(N,0)'
+pub record WaterAdded (s : Reach) (t : ℕ) (k k' : Ledger) : Type 0 where
+  pub left-in : k' .left .«water_in» ≡ k .left .«water_in» + positive (netAt s t 0)
+  pub left-out : k' .left .«water_out» ≡ k .left .«water_out» + positive (negℤ (netAt s t 0))
+  pub right-in : k' .right .«water_in» ≡ k .right .«water_in» + positive (negℤ (netAt s t (length (s .bed))))
+  pub right-out : k' .right .«water_out» ≡ k .right .«water_out» + positive (netAt s t (length (s .bed)))
+
+pub record WaterSame (k k' : Ledger) : Type 0 where
+  pub left-in : k' .left .«water_in» ≡ k .left .«water_in»
+  pub left-out : k' .left .«water_out» ≡ k .left .«water_out»
+  pub right-in : k' .right .«water_in» ≡ k .right .«water_in»
+  pub right-out : k' .right .«water_out» ≡ k .right .«water_out»
+
+-- 'Each settling .., with the c and ends held before it: left nutrient in gains max(c(0),0) times the left concentration, left nutrient out the first cell's left share; right
+-- nutrient in gains max(−c(n),0) times the right concentration, right nutrient out the last cell's right share'
+pub record MassAdded (s : Reach) (k k' : Ledger) : Type 0 where
+  pub left-in : k' .left .«mass_in» ≡ k .left .«mass_in» + positive (getD (s .carried) 0 (pos 0)) * leftBoundary (s .held .boundaries) .concentration
+  pub left-out : k' .left .«mass_out» ≡ k .left .«mass_out» + leftShare (massColumnsOf s) 0
+  pub right-in : k' .right .«mass_in» ≡ k .right .«mass_in» + positive (negℤ (getD (s .carried) (length (s .bed)) (pos 0))) * rightBoundary (s .held .boundaries) .concentration
+  pub right-out : k' .right .«mass_out» ≡ k .right .«mass_out» + rightShare (massColumnsOf s) (length (s .bed) - 1)
+
+pub record MassSame (k k' : Ledger) : Type 0 where
+  pub left-in : k' .left .«mass_in» ≡ k .left .«mass_in»
+  pub left-out : k' .left .«mass_out» ≡ k .left .«mass_out»
+  pub right-in : k' .right .«mass_in» ≡ k .right .«mass_in»
+  pub right-out : k' .right .«mass_out» ≡ k .right .«mass_out»
+
+-- What a list makes of the tally, call by call: 'opening amounts are those of the sheet', 'its sums start at 0', 'ends held or set since are those of the sheet and of every accepted end
+-- setting', 'a refused call, a greatest-step call and a write change nothing', 'an accepted [opening] starts another list'
+pub record TallyCourse : Type 0 where
+  pub none : (T : Tally) → run T [] ≡ T
+  pub next : (T : Tally) (e : Entry) (es : List Entry) → run T (e ∷ es) ≡ run (count T (e .free) (e .call)) es
+  pub sheet-initial : (sheet : List ℕ) → start sheet .initial ≡ sheetRecord sheet
+  pub sheet-sums : (sheet : List ℕ) → start sheet .sums ≡ zeroLedger
+  pub sheet-pair : (sheet : List ℕ) → start sheet .held ≡ sheetRecord sheet .held .boundaries ∷ []
+  pub refused : (T : Tally) (f : Free) (c : Call) → (refusalOf (T .own) f c ≡ 0 → ⊥) → count T f c ≡ T
+  pub greatest : (T : Tally) (f : Free) → count T f greatestCall ≡ T
+  pub write : (T : Tally) (f : Free) (room : ℕ) → count T f (writeCall room) ≡ T
+  pub opened : (T : Tally) (f : Free) (sheet : List ℕ) → refusalOf (T .own) f (openCall sheet) ≡ 0 → count T f (openCall sheet) ≡ start sheet
+  -- of accepted calls: the opening record stays; the pairs too, but for a setting, which adds its own
+  pub same-initial : (T : Tally) (f : Free) (c : Call) → ((sheet : List ℕ) → c ≡ openCall sheet → ⊥) → count T f c .initial ≡ T .initial
+  pub set-pairs : (T : Tally) (f : Free) (new : List Boundary) → refusalOf (T .own) f (boundariesCall new) ≡ 0 → count T f (boundariesCall new) .held ≡ new ∷ T .held
+  pub other-pairs : (T : Tally) (f : Free) (c : Call) → ((sheet : List ℕ) → c ≡ openCall sheet → ⊥) → ((new : List Boundary) → c ≡ boundariesCall new → ⊥)
+      → count T f c .held ≡ T .held
+  -- the sums: water at every step, mass at every transport, be it called by itself, in a setting or in a step
+  pub step-water : (T : Tally) (f : Free) (t : ℕ) → refusalOf (T .own) f (stepCall t) ≡ 0 → WaterAdded (T .own) t (T .sums) (count T f (stepCall t) .sums)
+  pub step-kept : (T : Tally) (f : Free) (t : ℕ) → refusalOf (T .own) f (stepCall t) ≡ 0 → ((i : ℕ) → i < length (T .own .bed) → Covered (T .own) t i)
+      → MassSame (T .sums) (count T f (stepCall t) .sums)
+  pub step-not-kept : (T : Tally) (f : Free) (t : ℕ) → refusalOf (T .own) f (stepCall t) ≡ 0 → (i : ℕ) → i < length (T .own .bed) → (Covered (T .own) t i → ⊥)
+      → MassAdded (T .own) (T .sums) (count T f (stepCall t) .sums)
+  pub transport-water : (T : Tally) (f : Free) → WaterSame (T .sums) (count T f transportCall .sums)
+  pub transport-mass : (T : Tally) (f : Free) → refusalOf (T .own) f transportCall ≡ 0 → MassAdded (T .own) (T .sums) (count T f transportCall .sums)
+  pub set-water : (T : Tally) (f : Free) (new : List Boundary) → WaterSame (T .sums) (count T f (boundariesCall new) .sums)
+  pub set-mass : (T : Tally) (f : Free) (new : List Boundary) → refusalOf (T .own) f (boundariesCall new) ≡ 0
+      → MassAdded (T .own) (T .sums) (count T f (boundariesCall new) .sums)

@@ -1,0 +1,38 @@
+// The three demands of the client's letter, in its own sentences, of the delivered functions. Functions without effect ensure them, so that the gate proves each.
+ghost use Rattle.demands.specs.Demand1.{AsksNothing, RefusedByTheFirst, StaysAsItCame};
+ghost use Rattle.demands.specs.Limits.{Limits, Lists};
+ghost use Rattle.demands.specs.Demand2.{DigitForDigit, ReadBack, WroteAgain};
+ghost use Rattle.demands.specs.Demand3.{AfterEveryList, NoDepthBelowZero, TallyCourse};
+ghost use Rattle.demands.specs.Model.{Amounts, NoGrainKept, GreatestStep, StandsAgain};
+
+pub fn demand_1()
+    ensures { λ _. ⌜ AsksNothing ⌝ }
+    ensures { λ _. ⌜ RefusedByTheFirst ⌝ }
+    ensures { λ _. ⌜ StaysAsItCame ⌝ }
+{}
+
+// 'within document 01's limits', in numbers
+pub fn limits()
+    ensures { λ _. ⌜ Limits ⌝ }
+    ensures { λ _. ⌜ Lists ⌝ }
+{}
+
+pub fn demand_2()
+    ensures { λ _. ⌜ DigitForDigit ⌝ }
+    ensures { λ _. ⌜ ReadBack ⌝ }
+    ensures { λ _. ⌜ WroteAgain ⌝ }
+{}
+
+pub fn demand_3()
+    ensures { λ _. ⌜ AfterEveryList ⌝ }
+    ensures { λ _. ⌜ NoDepthBelowZero ⌝ }
+    ensures { λ _. ⌜ TallyCourse ⌝ }
+{}
+
+// Document 01's sentences that the definitions do not show as they stand
+pub fn model()
+    ensures { λ _. ⌜ Amounts ⌝ }
+    ensures { λ _. ⌜ NoGrainKept ⌝ }
+    ensures { λ _. ⌜ GreatestStep ⌝ }
+    ensures { λ _. ⌜ StandsAgain ⌝ }
+{}
