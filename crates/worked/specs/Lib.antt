@@ -2,7 +2,5 @@ pub mod Flux
 pub mod Shares
 pub mod Interface
 pub mod Cfl
-pub mod Steps
-pub mod Totals
 pub mod Sheets
 pub mod Grounds

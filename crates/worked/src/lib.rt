@@ -4,8 +4,6 @@ ghost use Rattle.worked.specs.Flux.{FluxWorked};
 ghost use Rattle.worked.specs.Shares.{SharesWorked};
 ghost use Rattle.worked.specs.Interface.{InterfaceWorked};
 ghost use Rattle.worked.specs.Cfl.{CflWorked};
-ghost use Rattle.worked.specs.Steps.{StepsWorked};
-ghost use Rattle.worked.specs.Totals.{TotalsWorked};
 ghost use Rattle.worked.specs.Sheets.{SheetsWorked};
 ghost use Rattle.worked.specs.Grounds.{GroundsWorked};
 
@@ -23,14 +21,6 @@ pub fn interface_worked()
 
 pub fn cfl_worked()
     ensures { λ _. ⌜ CflWorked ⌝ }
-{}
-
-pub fn steps_worked()
-    ensures { λ _. ⌜ StepsWorked ⌝ }
-{}
-
-pub fn totals_worked()
-    ensures { λ _. ⌜ TotalsWorked ⌝ }
 {}
 
 pub fn sheets_worked()

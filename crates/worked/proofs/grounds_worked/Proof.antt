@@ -22,12 +22,11 @@ use Rattle.encoding.specs.FromBytes.{numberAt, twosIn, twos, columnAt}
 use Rattle.sheet.specs.Header.{sheetSize, boundaryAt, boundariesOf, editionFits, sizeFits, inside, apart, apartFrom, columnsClear, spansOf}
 use Rattle.sheet.specs.Opening.{sheetRecord, lentFit, opening}
 use Rattle.writing.specs.Writing.{noneCarried, roomFits, writeRefusal}
-use Rattle.tally.specs.Tally.{start}
 use Rattle.worked.proofs.grounds_worked.Statement.{statement}
 use Rattle.worked.proofs.grounds_worked.Tie as tie
 
 returns : tie.Need-returns
-unfolding allOf allBelow tabulate sum squareRoot climb share shares rest maxℤ eqℤ upper lower waterOf waterFlux secondMoment momentumOf momentumFlux stillThrust reducedDepth leftDepth rightDepth netWater momentumSum mirrored velocity waveSpeed signalSpeed speedAt meetsCfl greatestStep fastestPlace cellShares rightwards leftwards movedCell parts outflow firstRefusal lengthsFit cellLengthFits wallFits openFits fedFits kindFits boundaryFits boundariesFit cellFits cellsFit carriedFits carriedCellsFit shutFits carriedFit totalsFit ledgerFits enteringLeft enteringRight withMass ledgerWith transportLedger afterTransport holding setBoundaries transport sideSpeed cellSide boundarySide leftSide rightSide netAt momentumAt ownLeft ownRight newDepth pushed nearest newDischarge boundarySpeed leftSpeed rightSpeed placeSpeed greatestTime greatestPlace greatest summed keepsSums transportedFirst withWater withBoundaryWater stepLedger afterStep timeFits depthsFit step numberAt twosIn twos columnAt sheetSize boundaryAt boundariesOf editionFits sizeFits inside apart apartFrom columnsClear spansOf sheetRecord lentFit opening noneCarried roomFits writeRefusal start
+unfolding allOf allBelow tabulate sum squareRoot climb share shares rest maxℤ eqℤ upper lower waterOf waterFlux secondMoment momentumOf momentumFlux stillThrust reducedDepth leftDepth rightDepth netWater momentumSum mirrored velocity waveSpeed signalSpeed speedAt meetsCfl greatestStep fastestPlace cellShares rightwards leftwards movedCell parts outflow firstRefusal lengthsFit cellLengthFits wallFits openFits fedFits kindFits boundaryFits boundariesFit cellFits cellsFit carriedFits carriedCellsFit shutFits carriedFit totalsFit ledgerFits enteringLeft enteringRight withMass ledgerWith transportLedger afterTransport holding setBoundaries transport sideSpeed cellSide boundarySide leftSide rightSide netAt momentumAt ownLeft ownRight newDepth pushed nearest newDischarge boundarySpeed leftSpeed rightSpeed placeSpeed greatestTime greatestPlace greatest summed keepsSums transportedFirst withWater withBoundaryWater stepLedger afterStep timeFits depthsFit step numberAt twosIn twos columnAt sheetSize boundaryAt boundariesOf editionFits sizeFits inside apart apartFrom columnsClear spansOf sheetRecord lentFit opening noneCarried roomFits writeRefusal
 returns c =
     record {
       open-numbers = λ s z h q m b c. refl;

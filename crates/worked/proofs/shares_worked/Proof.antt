@@ -19,12 +19,11 @@ use Rattle.update.specs.Step.{summed, keepsSums, transportedFirst, withWater, w
 use Rattle.encoding.specs.FromBytes.{numberAt, twosIn, twos, columnAt}
 use Rattle.sheet.specs.Header.{boundaryAt, boundariesOf}
 use Rattle.sheet.specs.Opening.{sheetRecord}
-use Rattle.tally.specs.Tally.{addWater, addMass, addStep, start, countStep, countTransport, countSetting}
 use Rattle.worked.proofs.shares_worked.Statement.{statement}
 use Rattle.worked.proofs.shares_worked.Tie as tie
 
 returns : tie.Need-returns
-unfolding allOf allBelow tabulate sum squareRoot climb share shares rest maxℤ eqℤ upper lower waterOf waterFlux secondMoment momentumOf momentumFlux stillThrust reducedDepth leftDepth rightDepth netWater momentumSum mirrored velocity waveSpeed cellShares rightwards leftwards movedCell parts outflow firstRefusal lengthsFit cellLengthFits wallFits openFits fedFits kindFits boundaryFits boundariesFit cellFits cellsFit carriedFits carriedCellsFit shutFits carriedFit totalsFit ledgerFits enteringLeft enteringRight withMass ledgerWith transportLedger afterTransport holding transport cellSide boundarySide leftSide rightSide netAt momentumAt ownLeft ownRight newDepth pushed nearest newDischarge summed keepsSums transportedFirst withWater withBoundaryWater stepLedger afterStep numberAt twosIn twos columnAt boundaryAt boundariesOf sheetRecord addWater addMass addStep start countStep countTransport countSetting
+unfolding allOf allBelow tabulate sum squareRoot climb share shares rest maxℤ eqℤ upper lower waterOf waterFlux secondMoment momentumOf momentumFlux stillThrust reducedDepth leftDepth rightDepth netWater momentumSum mirrored velocity waveSpeed cellShares rightwards leftwards movedCell parts outflow firstRefusal lengthsFit cellLengthFits wallFits openFits fedFits kindFits boundaryFits boundariesFit cellFits cellsFit carriedFits carriedCellsFit shutFits carriedFit totalsFit ledgerFits enteringLeft enteringRight withMass ledgerWith transportLedger afterTransport holding transport cellSide boundarySide leftSide rightSide netAt momentumAt ownLeft ownRight newDepth pushed nearest newDischarge summed keepsSums transportedFirst withWater withBoundaryWater stepLedger afterStep numberAt twosIn twos columnAt boundaryAt boundariesOf sheetRecord
 returns c =
     record {
       grain-right = refl;

@@ -9,12 +9,11 @@ use Rattle.encoding.specs.ToBytes.{bytesOf, bitsIn, bits, columnBytes, written}
 use Rattle.sheet.specs.Header.{sheetSize, boundaryAt, boundariesOf, editionFits, sizeFits, inside, apart, apartFrom, columnsClear, spansOf}
 use Rattle.sheet.specs.Opening.{sheetRecord, lentFit, opening}
 use Rattle.writing.specs.Writing.{boundaryBytes, headerBytes, sheetBytes, noneCarried, roomFits, writeRefusal, outputAfter}
-use Rattle.tally.specs.Tally.{start}
 use Rattle.worked.proofs.sheets_worked.Statement.{statement}
 use Rattle.worked.proofs.sheets_worked.Tie as tie
 
 returns : tie.Need-returns
-unfolding allOf allBelow tabulate sum eqℤ parts outflow firstRefusal lengthsFit cellLengthFits wallFits openFits fedFits kindFits boundaryFits boundariesFit cellFits cellsFit carriedFits carriedCellsFit shutFits carriedFit totalsFit ledgerFits numberAt twosIn twos columnAt bytesOf bitsIn bits columnBytes written sheetSize boundaryAt boundariesOf editionFits sizeFits inside apart apartFrom columnsClear spansOf sheetRecord lentFit opening boundaryBytes headerBytes sheetBytes noneCarried roomFits writeRefusal outputAfter start
+unfolding allOf allBelow tabulate sum eqℤ parts outflow firstRefusal lengthsFit cellLengthFits wallFits openFits fedFits kindFits boundaryFits boundariesFit cellFits cellsFit carriedFits carriedCellsFit shutFits carriedFit totalsFit ledgerFits numberAt twosIn twos columnAt bytesOf bitsIn bits columnBytes written sheetSize boundaryAt boundariesOf editionFits sizeFits inside apart apartFrom columnsClear spansOf sheetRecord lentFit opening boundaryBytes headerBytes sheetBytes noneCarried roomFits writeRefusal outputAfter
 returns c =
     record {
       opened = refl;

@@ -1,4 +1,4 @@
--- `worked::steps_worked` meets its contract: every value is computed from the definitions. Assumes nothing.
+-- `worked_runs::steps_worked` meets its contract: every value is computed from the definitions. Assumes nothing.
 use mathlib.Core.Path.{refl}
 use Rattle.numbers.specs.Index.{allOf, allBelow, tabulate, sum}
 use Rattle.numbers.specs.Root.{squareRoot}
@@ -18,8 +18,8 @@ use Rattle.water.specs.Sides.{sideSpeed, cellSide, boundarySide, leftSide, righ
 use Rattle.water.specs.Water.{netAt, momentumAt, ownLeft, ownRight, newDepth, pushed, nearest, newDischarge}
 use Rattle.timestep.specs.GreatestStep.{boundarySpeed, leftSpeed, rightSpeed, placeSpeed}
 use Rattle.update.specs.Step.{summed, keepsSums, transportedFirst, withWater, withBoundaryWater, stepLedger, afterStep, timeFits, depthsFit, step, transports}
-use Rattle.worked.proofs.steps_worked.Statement.{statement}
-use Rattle.worked.proofs.steps_worked.Tie as tie
+use Rattle.worked_runs.proofs.steps_worked.Statement.{statement}
+use Rattle.worked_runs.proofs.steps_worked.Tie as tie
 
 returns : tie.Need-returns
 unfolding allOf allBelow tabulate sum squareRoot climb share shares rest maxℤ eqℤ upper lower waterOf waterFlux secondMoment momentumOf momentumFlux stillThrust reducedDepth leftDepth rightDepth netWater momentumSum mirrored velocity waveSpeed signalSpeed speedAt meetsCfl cellShares rightwards leftwards movedCell parts outflow firstRefusal lengthsFit cellLengthFits wallFits openFits fedFits kindFits boundaryFits boundariesFit cellFits cellsFit carriedFits carriedCellsFit shutFits carriedFit totalsFit ledgerFits enteringLeft enteringRight withMass ledgerWith transportLedger afterTransport sideSpeed cellSide boundarySide leftSide rightSide netAt momentumAt ownLeft ownRight newDepth pushed nearest newDischarge boundarySpeed leftSpeed rightSpeed placeSpeed summed keepsSums transportedFirst withWater withBoundaryWater stepLedger afterStep timeFits depthsFit step transports

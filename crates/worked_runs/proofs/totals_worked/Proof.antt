@@ -1,4 +1,4 @@
--- `worked::totals_worked` meets its contract: every value is computed from the definitions. Assumes nothing.
+-- `worked_runs::totals_worked` meets its contract: every value is computed from the definitions. Assumes nothing.
 use mathlib.Core.Path.{refl}
 use Rattle.numbers.specs.Index.{allOf, allBelow, tabulate, sum}
 use Rattle.numbers.specs.Root.{squareRoot}
@@ -24,8 +24,8 @@ use Rattle.sheet.specs.Opening.{sheetRecord, lentFit, opening}
 use Rattle.writing.specs.Writing.{noneCarried, roomFits, writeRefusal}
 use Rattle.tally.specs.Call.{final}
 use Rattle.tally.specs.Tally.{addWater, addMass, addStep, start, countStep, countTransport, countSetting, ifAccepted, count, run}
-use Rattle.worked.proofs.totals_worked.Statement.{statement}
-use Rattle.worked.proofs.totals_worked.Tie as tie
+use Rattle.worked_runs.proofs.totals_worked.Statement.{statement}
+use Rattle.worked_runs.proofs.totals_worked.Tie as tie
 
 returns : tie.Need-returns
 unfolding allOf allBelow tabulate sum squareRoot climb share shares rest maxℤ eqℤ upper lower waterOf waterFlux secondMoment momentumOf momentumFlux stillThrust reducedDepth leftDepth rightDepth netWater momentumSum mirrored velocity waveSpeed signalSpeed speedAt meetsCfl greatestStep fastestPlace cellShares rightwards leftwards movedCell parts outflow firstRefusal lengthsFit cellLengthFits wallFits openFits fedFits kindFits boundaryFits boundariesFit cellFits cellsFit carriedFits carriedCellsFit shutFits carriedFit totalsFit ledgerFits enteringLeft enteringRight withMass ledgerWith transportLedger afterTransport holding setBoundaries transport sideSpeed cellSide boundarySide leftSide rightSide netAt momentumAt ownLeft ownRight newDepth pushed nearest newDischarge boundarySpeed leftSpeed rightSpeed placeSpeed greatestTime greatestPlace greatest summed keepsSums transportedFirst withWater withBoundaryWater stepLedger afterStep timeFits depthsFit step numberAt twosIn twos columnAt sheetSize boundaryAt boundariesOf editionFits sizeFits inside apart apartFrom columnsClear spansOf sheetRecord lentFit opening noneCarried roomFits writeRefusal final addWater addMass addStep start countStep countTransport countSetting ifAccepted count run
@@ -36,8 +36,6 @@ returns c =
       sums = refl;
       depths = refl;
       masses = refl;
-      pairs = refl;
-      times = refl;
     }
 
 pub totals-worked-spec : {M : Type 1} → statement M

@@ -1,7 +1,7 @@
 -- Document 01, 'The list of demand 3 and its tally': all eight totals of a run with open and fed boundaries, by the ledger (its 'book') and by
 -- the tally. Two cells, X 1,000 mm.
 use mathlib.Core.Path.{_≡_}
-use mathlib.Core.List.{List, [], _∷_, map}
+use mathlib.Core.List.{List, [], _∷_}
 use Prim.Native.Nat.{ℕ}
 use lib.IntN.{pos, negℤ}
 use Rattle.reach.specs.Outcome.{Outcome}
@@ -40,13 +40,6 @@ runSheet =
     ∷ 192 ∷ 198 ∷ 45 ∷ 0 ∷ 0 ∷ 0 ∷ 0 ∷ 0  -- discharge 3,000,000
     ∷ 145 ∷ 95 ∷ 1 ∷ 0 ∷ 0 ∷ 0 ∷ 0 ∷ 0  -- mass 90,001
     ∷ 83 ∷ 195 ∷ 0 ∷ 0 ∷ 0 ∷ 0 ∷ 0 ∷ 0 ∷ []  -- mass 50,003
-
--- as a pair
-abbrev pub openPair : List Boundary
-openPair =
-    record { kind = 1; reserved = 0; depth = 0; concentration = 13; discharge = pos 0 }
-    ∷ record { kind = 1; reserved = 0; depth = 0; concentration = 11; discharge = pos 0 }
-    ∷ []
 
 -- then both are fed: at the left 5,000 at rest and concentration 7, at the right 60,000 at −150 mm/s and concentration 5
 abbrev pub fedPair : List Boundary
@@ -89,6 +82,3 @@ pub record TotalsWorked : Type 0 where
   -- 75,000 of water and 600 + 1,089 − 465 − 297; 140,004 grains and 7,800 + 5,445 − 1,121 − 424
   pub depths : final (opened .reach) calls .depth ≡ 38_990 ∷ 36_937 ∷ []
   pub masses : final (opened .reach) calls .mass ≡ 94_012 ∷ 57_692 ∷ []
-  -- the pairs that bounds are asked of: that of the sheet and that of the accepted setting, and no other; and the accepted steps, without that of 0
-  pub pairs : run (start runSheet) calls .held ≡ fedPair ∷ openPair ∷ []
-  pub times : map (λ a. a .time) (run (start runSheet) calls .steps) ≡ 100 ∷ 100 ∷ []
