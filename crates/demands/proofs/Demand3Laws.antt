@@ -32,6 +32,7 @@ pub after-every-list : AfterEveryList
 after-every-list sheet es before opened after first z rest =
     let h = demand-3 sheet es before opened after first z rest in
     record {
+      own = h .own;
       water = water-held h;
       mass = mass-held h;
       left-water-in = ap (λ (k : Ledger). k .left .«water_in») (h .ledger);
@@ -184,6 +185,7 @@ unfolding run start count countStep countTransport countSetting sheetRecord
 tally-course = record {
   none = λ T. refl;
   next = λ T e es. refl;
+  sheet-own = λ sheet. refl;
   sheet-initial = λ sheet. refl;
   sheet-sums = λ sheet. refl;
   sheet-pair = λ sheet. refl;

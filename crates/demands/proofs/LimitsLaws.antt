@@ -13,6 +13,7 @@ use Rattle.reach.proofs.PartsLaws.{outflow-is}
 use Rattle.sheet.specs.Header.{sheetSize, editionFits, sizeFits, inside, apart, apartFrom, columnsClear, spansOf}
 use Rattle.sheet.specs.Opening.{lentFit, sheetRecord}
 use Rattle.timestep.specs.GreatestStep.{placeSpeed}
+use Rattle.water.specs.Water.{newDepth}
 use Rattle.transport.specs.Calls.{afterTransport}
 use Rattle.update.specs.Step.{timeFits, depthsFit, afterStep}
 use Rattle.writing.specs.Writing.{noneCarried, roomFits}
@@ -40,7 +41,7 @@ two-more : (n : ℕ) → suc (n + 1) ≡ n + 2
 two-more n = omega arith
 
 pub limits : Limits
-unfolding sheetSize editionFits sizeFits inside apart spansOf lentFit lengthsFit cellLengthFits wallFits openFits fedFits kindFits boundaryFits boundariesFit cellFits cellsFit carriedFits carriedCellsFit shutFits carriedFit totalsFit ledgerFits timeFits meetsCfl depthsFit noneCarried roomFits apartFrom columnsClear
+unfolding newDepth sheetSize editionFits sizeFits inside apart spansOf lentFit lengthsFit cellLengthFits wallFits openFits fedFits kindFits boundaryFits boundariesFit cellFits cellsFit carriedFits carriedCellsFit shutFits carriedFit totalsFit ledgerFits timeFits meetsCfl depthsFit noneCarried roomFits apartFrom columnsClear
 limits = record {
   edition = λ s. refl;
   size = λ s. refl;

@@ -87,7 +87,7 @@ pub record LentCells (n : ℕ) (l : Lent) : Type 0 where
   pub carried : length (now (l .carried)) ≡ n + 1
 
 -- 'a settled record written to a sheet reads back as that record with an empty book': whatever jemmyfern_write wrote, jemmyfern_open opens, in whatever columns are
--- lent for as many cells, however many these are. (The pair of boundaries is an array of two.)
+-- lent for as many cells, however many these are. (A write that is not refused was of a settled record, by 14, and then b = h, by 8. The pair of boundaries is an array of two.)
 abbrev pub ReadBack : Type 0
 ReadBack =
     (κs κs' : Lfts 7) (l l' : Lent) (X : ℕ) (k : Held) (out sheet : RefT (List ℕ)) (w : WriteAnswer) (written : List ℕ) (r : OpenAnswer) (e : OpenLeft) →

@@ -37,6 +37,8 @@ PairBounded lo hi pair = BoundaryBounded lo hi (leftBoundary pair) × BoundaryBo
 
 -- `ledger` is the book that was last handed back
 pub record AfterList (T : Tally) (s : Reach) (ledger : Ledger) : Type 0 where
+  -- the tally's own record is the program's: what it reads and adds up is what happened
+  pub own : s ≡ T .own
   -- 'the water held equals the opening water plus what the ends let in less what they let out': held and let out are what there was and was let in
   pub water : sum (s .depth) + (ledger .left .«water_out» + ledger .right .«water_out») ≡ sum (T .initial .depth) + (ledger .left .«water_in» + ledger .right .«water_in»)
   -- 'and the nutrient likewise'
@@ -102,11 +104,12 @@ pub record MassSame (k k' : Ledger) : Type 0 where
   pub right-in : k' .right .«mass_in» ≡ k .right .«mass_in»
   pub right-out : k' .right .«mass_out» ≡ k .right .«mass_out»
 
--- What a list makes of the tally, call by call: 'opening amounts are those of the sheet', 'its sums start at 0', 'ends held or set since are those of the sheet and of every accepted end
+-- What a list makes of the tally, call by call (its own record moves as the program's: `own`, above): 'opening amounts are those of the sheet', 'its sums start at 0', 'ends held or set since are those of the sheet and of every accepted end
 -- setting', 'a refused call, a greatest-step call and a write change nothing', 'an accepted [opening] starts another list'
 pub record TallyCourse : Type 0 where
   pub none : (T : Tally) → run T [] ≡ T
   pub next : (T : Tally) (e : Entry) (es : List Entry) → run T (e ∷ es) ≡ run (count T (e .free) (e .call)) es
+  pub sheet-own : (sheet : List ℕ) → start sheet .own ≡ sheetRecord sheet
   pub sheet-initial : (sheet : List ℕ) → start sheet .initial ≡ sheetRecord sheet
   pub sheet-sums : (sheet : List ℕ) → start sheet .sums ≡ zeroLedger
   pub sheet-pair : (sheet : List ℕ) → start sheet .held ≡ sheetRecord sheet .held .boundaries ∷ []
@@ -114,7 +117,7 @@ pub record TallyCourse : Type 0 where
   pub greatest : (T : Tally) (f : Free) → count T f greatestCall ≡ T
   pub write : (T : Tally) (f : Free) (room : ℕ) → count T f (writeCall room) ≡ T
   pub opened : (T : Tally) (f : Free) (sheet : List ℕ) → refusalOf (T .own) f (openCall sheet) ≡ 0 → count T f (openCall sheet) ≡ start sheet
-  -- of accepted calls: the opening record stays; the pairs too, but for a setting, which adds its own
+  -- of every call but an opening, accepted or refused: the opening record stays; the pairs too, but for a setting, which adds its own
   pub same-initial : (T : Tally) (f : Free) (c : Call) → ((sheet : List ℕ) → c ≡ openCall sheet → ⊥) → count T f c .initial ≡ T .initial
   pub set-pairs : (T : Tally) (f : Free) (new : List Boundary) → refusalOf (T .own) f (boundariesCall new) ≡ 0 → count T f (boundariesCall new) .held ≡ new ∷ T .held
   pub other-pairs : (T : Tally) (f : Free) (c : Call) → ((sheet : List ℕ) → c ≡ openCall sheet → ⊥) → ((new : List Boundary) → c ≡ boundariesCall new → ⊥)

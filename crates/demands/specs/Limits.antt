@@ -2,7 +2,7 @@
 use mathlib.Core.Path.{_≡_}
 use mathlib.Core.Bool.{true, false, cond, _&&_, _||_}
 use mathlib.Core.List.{List, [], _∷_, _++_}
-use Prim.Native.Nat.{ℕ, _+_, _*_}
+use Prim.Native.Nat.{ℕ, suc, _+_, _*_}
 use lib.Dec.{leb, eqb}
 use lib.IntN.{ℤ, pos, _+ℤ_, _-ℤ_, negℤ, natAbs}
 use lib.ListN.{length, getD}
@@ -19,12 +19,13 @@ use Rattle.encoding.specs.FromBytes.{numberAt}
 use Rattle.sheet.specs.Header.{Span, span, editionFits, sizeFits, inside, apart, columnsClear, spansOf}
 use Rattle.sheet.specs.Opening.{lentFit, sheetRecord, openGrounds}
 use Rattle.transport.specs.Calls.{transportGrounds, afterTransport}
-use Rattle.water.specs.Water.{newDepth}
+use Rattle.water.specs.Water.{netAt}
 use Rattle.timestep.specs.GreatestStep.{placeSpeed}
 use Rattle.update.specs.Step.{timeFits, depthsFit, stepGrounds, afterStep}
 use Rattle.writing.specs.Writing.{noneCarried, roomFits, writeGrounds}
 
--- the tests that the lists of grounds name (`numberAt 4 s k` is the u32 at byte k of the sheet s: edition at 0, length in bytes at 4, n at 8, offsets from 16 on)
+-- the tests that the lists of grounds name (`numberAt 4 s k` is the u32 at byte k of the sheet s: edition at 0, length in bytes at 4, n at 8, X at 12, offsets from 16 on, boundaries from 32 and
+-- from 56 on)
 pub record Limits : Type 0 where
   -- 1: at least 80 bytes, edition 1
   pub edition : (s : List ℕ) → editionFits s ≡ allOf (leb 80 (length s) ∷ eqb (numberAt 4 s 0) 1 ∷ [])
@@ -99,12 +100,13 @@ pub record Limits : Type 0 where
   pub ledger : (k : Ledger) → ledgerFits k ≡ allOf (totalsFit (k .left) ∷ totalsFit (k .right) ∷ [])
   -- 10: t is 1..1,000
   pub time : (t : ℕ) → timeFits t ≡ allOf (leb 1 t ∷ leb t 1_000 ∷ [])
-  -- 11: t·(|u|+a) ≤ 1,000·X at the places 0..n+1
+  -- 11: t·(|u|+a) ≤ 1,000·X at the places 0..n+1 (|u|+a is 0 at a boundary that is not fed)
   pub cfl : (s : Reach) (t : ℕ)
       → meetsCfl (placeSpeed s) (cells s + 1) (s .cellLength) t
       ≡ allBelow (cells s + 2) (λ i. leb (t * placeSpeed s i) (1_000 * s .cellLength))
-  -- 12: no new depth exceeds 4,000,000
-  pub new-depths : (s : Reach) (t : ℕ) → depthsFit s t ≡ allBelow (cells s) (λ i. leZ (newDepth s t i) (pos 4_000_000))
+  -- 12: no new depth h + N(left) − N(right) exceeds 4,000,000
+  pub new-depths : (s : Reach) (t : ℕ)
+      → depthsFit s t ≡ allBelow (cells s) (λ i. leZ (pos (getD (s .depth) i 0) +ℤ netAt s t i -ℤ netAt s t (suc i)) (pos 4_000_000))
   -- 14: every c is 0
   pub none-carried : (c : List ℤ) → noneCarried c ≡ allBelow (length c) (λ i. eqb (natAbs (getD c i (pos 0))) 0)
   -- 15: the output is not shorter than the sheet, 80+24n
@@ -112,7 +114,7 @@ pub record Limits : Type 0 where
 
 -- the lists of grounds, in checking order: which test has which number
 pub record Lists : Type 0 where
-  -- 'Every other call on a record uses 4 to 9'; 6 twice, for the boundaries held and those newly given (`es`: for a call that is given none, those held)
+  -- 'Every other call on a record uses 4 to 9' (the greatest-step call no others); 6 twice, for the boundaries held and those newly given (`es`: for a call that is given none, those held)
   pub record-list : (s : Reach) (es : List Boundary)
       → recordGrounds s es
       ≡ ground 4 (lengthsFit (length (s .bed)) (length (s .depth)) (length (s .discharge)) (length (s .mass)) (length (s .base)) (length (s .carried)))

@@ -42,6 +42,23 @@ fedRight = oneCell 100_000 (pos 0) noBoundary fedStill
 abbrev pub openLeft : Reach
 openLeft = oneCell 272_000 (pos 0) (record { kind = 1; reserved = 0; depth = 0; concentration = 0; discharge = pos 0 }) noBoundary
 
+-- beside a fed boundary of the same wave speed that flows away at 500 mm/s
+abbrev pub fedFlowing : Reach
+fedFlowing = oneCell 100_000 (pos 0) (record { kind = 2; reserved = 0; depth = 272_000; concentration = 0; discharge = negℤ (pos 136_000_000) }) noBoundary
+
+-- a pit between walls: the water in the middle is below both banks, so that its depths reduced at either side are 0
+abbrev pub pit : Reach
+pit = record {
+  bed = pos 300_000 ∷ pos 0 ∷ pos 300_000 ∷ [];
+  depth = 0 ∷ 272_000 ∷ 0 ∷ [];
+  discharge = pos 0 ∷ pos 0 ∷ pos 0 ∷ [];
+  mass = 0 ∷ 0 ∷ 0 ∷ [];
+  base = 0 ∷ 272_000 ∷ 0 ∷ [];
+  carried = pos 0 ∷ pos 0 ∷ pos 0 ∷ pos 0 ∷ [];
+  cellLength = 1_000;
+  held = heldWith (noBoundary ∷ noBoundary ∷ []) emptyLedger;
+}
+
 pub record CflWorked : Type 0 where
   -- 14,709,975·272,000 / 1,000,000 is 4,001,113; 2,000² is 4,000,000, 2,001² is 4,004,001
   pub wave : waveSpeed 272_000 ≡ 2_000
@@ -68,3 +85,11 @@ pub record CflWorked : Type 0 where
   pub open-500 : step openLeft 500 .refusal ≡ 0
   pub open-501 : step openLeft 501 .refusal ≡ 11
   pub open-greatest : greatest openLeft ≡ record { refusal = 0; held = openLeft .held; time = 500; place = 1 }
+  -- |u| of a fed boundary counts: 400·(500 + 2,000) = 1,000,000; at rest 500 would pass
+  pub fed-flowing-400 : step fedFlowing 400 .refusal ≡ 0
+  pub fed-flowing-401 : step fedFlowing 401 .refusal ≡ 11
+  pub fed-flowing-greatest : greatest fedFlowing ≡ record { refusal = 0; held = fedFlowing .held; time = 400; place = 0 }
+  -- the unreduced depth counts: with reduced ones 501 would pass
+  pub pit-500 : step pit 500 .refusal ≡ 0
+  pub pit-501 : step pit 501 .refusal ≡ 11
+  pub pit-greatest : greatest pit ≡ record { refusal = 0; held = pit .held; time = 500; place = 2 }

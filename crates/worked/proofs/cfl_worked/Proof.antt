@@ -42,6 +42,12 @@ returns c =
       open-500 = refl;
       open-501 = refl;
       open-greatest = refl;
+      fed-flowing-400 = refl;
+      fed-flowing-401 = refl;
+      fed-flowing-greatest = refl;
+      pit-500 = refl;
+      pit-501 = refl;
+      pit-greatest = refl;
     }
 
 pub cfl-worked-spec : {M : Type 1} → statement M

@@ -40,4 +40,22 @@ fn cfl_at_equality() {
     equality(&one_cell(272_000, 0, [fed, WALL]), 500, 0);
     equality(&one_cell(100_000, 0, [WALL, fed]), 500, 2);
     equality(&one_cell(272_000, 0, [open, WALL]), 500, 1);
+    let flowing = End {
+        discharge: -136_000_000,
+        ..fed
+    };
+    equality(&one_cell(100_000, 0, [flowing, WALL]), 400, 0);
+}
+
+/// Both depths of the middle cell are reduced to 0 at its banks; the whole depth counts.
+#[test]
+fn cfl_of_a_pit() {
+    let bank = (300_000, 0, 0, 0, 0);
+    let pit = Record {
+        columns: columns(&[bank, (0, 272_000, 0, 0, 272_000), bank], &[0, 0, 0, 0]),
+        x: 1_000,
+        ends: [WALL, WALL],
+        book: Book::default(),
+    };
+    equality(&pit, 500, 2);
 }
