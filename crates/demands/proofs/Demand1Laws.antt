@@ -46,7 +46,7 @@ unfolding First firstRefusal
 first [] = refl
 first (g ∷ gs) = (λ e. rw e (first gs), λ e. rw e refl)
 
-number : (k : Check) (s t : Reach) → outcome k s t .refusal ≡ numberOf k
+pub number : (k : Check) (s t : Reach) → outcome k s t .refusal ≡ numberOf k
 number Pass s t = refl
 number (Refused n) s t = refl
 
@@ -54,7 +54,7 @@ number (Refused n) s t = refl
 by-outcome : (gs : List Ground) (s t : Reach) {n : ℕ} → n ≡ outcome (firstRefusal gs) s t .refusal → First n gs
 by-outcome gs s t e = subst (λ (x : ℕ). First x gs) (sym (e ∙ number (firstRefusal gs) s t)) (first gs)
 
-greatest-number : (k : Check) (s : Reach) → greatestBy k s .refusal ≡ numberOf k
+pub greatest-number : (k : Check) (s : Reach) → greatestBy k s .refusal ≡ numberOf k
 greatest-number Pass s = refl
 greatest-number (Refused n) s = refl
 
@@ -77,8 +77,9 @@ stayed : (k : Check) (s t : Reach) → IsRefused (outcome k s t .refusal) → ou
 stayed Pass s t ne = absurd (ne refl)
 stayed (Refused n) s t ne = refl
 
-open-stays : (r : OpenAnswer) (n : ℕ) (h : Held) → r .«cell_length» ≡ n → r .held ≡ h → r ≡ record { refusal = r .refusal; «cell_length» = n; held = h }
-open-stays r n h p q = rw (sym p, sym q) refl
+-- an answer as it is, by each of its fields
+pub open-is : (r : OpenAnswer) (n x : ℕ) (h : Held) → r .refusal ≡ n → r .«cell_length» ≡ x → r .held ≡ h → r ≡ record { refusal = n; «cell_length» = x; held = h }
+open-is r n x h o p q = rw (sym o, sym p, sym q) refl
 
 step-stays : (r : StepAnswer) (h : Held) → r .held ≡ h → r .transported ≡ false → r ≡ record { refusal = r .refusal; held = h; transported = false }
 step-stays r h p q = rw (sym p, sym q) refl
@@ -90,7 +91,7 @@ write-stays : (r : WriteAnswer) (h : Held) → r .held ≡ h → r ≡ record { 
 write-stays r h p = rw (sym p) refl
 
 -- columns as they are, by each of them
-six : (e : OpenLeft) (z : List ℤ) (d : List ℕ) (q : List ℤ) (m b : List ℕ) (c : List ℤ) → e .bed ≡ z → e .depth ≡ d → e .discharge ≡ q → e .mass ≡ m → e .base ≡ b → e .carried ≡ c
+pub six : (e : OpenLeft) (z : List ℤ) (d : List ℕ) (q : List ℤ) (m b : List ℕ) (c : List ℤ) → e .bed ≡ z → e .depth ≡ d → e .discharge ≡ q → e .mass ≡ m → e .base ≡ b → e .carried ≡ c
     → e ≡ record { bed = z; depth = d; discharge = q; mass = m; base = b; carried = c }
 six e z d q m b c pz pd pq pm pb pc = rw (sym pz, sym pd, sym pq, sym pm, sym pb, sym pc) refl
 
@@ -141,7 +142,7 @@ open-stayed : (sheet : List ℕ) (l : Reach) {r : OpenAnswer} {e : OpenLeft} →
     × (e ≡ record { bed = l .bed; depth = l .depth; discharge = l .discharge; mass = l .mass; base = l .base; carried = l .carried })
 open-stayed sheet l {r} {e} c ne =
     let same = refused-opening sheet l (λ z. ne (c .refusal-is ∙ z)) in (
-      open-stays r _ _ (c .length-is ∙ ap (λ (x : Reach). x .cellLength) same) (c .held-is ∙ ap (λ (x : Reach). x .held) same),
+      open-is r (r .refusal) _ _ refl (c .length-is ∙ ap (λ (x : Reach). x .cellLength) same) (c .held-is ∙ ap (λ (x : Reach). x .held) same),
       six e _ _ _ _ _ _ (c .bed-is ∙ ap (λ (x : Reach). x .bed) same) (c .depth-is ∙ ap (λ (x : Reach). x .depth) same) (c .discharge-is ∙ ap (λ (x : Reach). x .discharge) same)
           (c .mass-is ∙ ap (λ (x : Reach). x .mass) same) (c .base-is ∙ ap (λ (x : Reach). x .base) same) (c .carried-is ∙ ap (λ (x : Reach). x .carried) same),
     )

@@ -40,6 +40,7 @@ use Rattle.writing.specs.Writing.{sheetBytes, writeRefusal, outputAfter, output
 use Rattle.writing.specs.RoundTrip.{withEmptyLedger}
 use Rattle.writing.proofs.RoundTripUses.{write-passes, write-then-open, open-then-write}
 use Rattle.jemmyfern_c.proofs.Functions.{given, OpenLeft, StepLeft}
+use Rattle.demands.proofs.Demand1Laws.{number, greatest-number, open-is, six}
 use Rattle.demands.specs.Demand2.{Covered, Kept, NotKept, DigitForDigit, ReadBack, WroteAgain}
 
 -- a call that answers 0 stood all its grounds, since none of them has the number 0
@@ -50,12 +51,8 @@ stood-all gs m = go (firstRefusal gs) refl
     go Pass e z = refl
     go (Refused n) e z = absurd (omega (arith, z, refused-number gs n m e))
 
-number : (k : Check) (s t : Reach) → numberOf k ≡ outcome k s t .refusal
-number Pass s t = refl
-number (Refused n) s t = refl
-
 moved : (gs : List Ground) (s t : Reach) → numbered gs ≡ true → outcome (firstRefusal gs) s t .refusal ≡ 0 → outcome (firstRefusal gs) s t .reach ≡ t
-moved gs s t m z = ap (λ (k : Check). outcome k s t .reach) (stood-all gs m (number (firstRefusal gs) s t ∙ z))
+moved gs s t m z = ap (λ (k : Check). outcome k s t .reach) (stood-all gs m (sym (number (firstRefusal gs) s t) ∙ z))
 
 opened-is : (sheet : List ℕ) (l : Reach) → opening sheet l .refusal ≡ 0 → opening sheet l .reach ≡ sheetRecord sheet
 unfolding opening numbered
@@ -173,15 +170,11 @@ not-kept-is s t k z i l ne =
 
 -- ---- the answers of an accepted greatest-step call and of a write
 
-greatest-number : (s : Reach) (k : Check) → numberOf k ≡ greatestBy k s .refusal
-greatest-number s Pass = refl
-greatest-number s (Refused n) = refl
-
 pub greatest-stood : (s : Reach) → greatest s .refusal ≡ 0 → firstRefusal (recordGrounds s (s .held .boundaries)) ≡ Pass
 unfolding greatest numbered
 greatest-stood s z =
     let gs = recordGrounds s (s .held .boundaries) in
-    stood-all gs refl (greatest-number s (firstRefusal gs) ∙ z)
+    stood-all gs refl (sym (greatest-number (firstRefusal gs) s) ∙ z)
 
 pub greatest-is : (s : Reach) → greatest s .refusal ≡ 0 → greatest s ≡ record { refusal = 0; held = s .held; time = greatestTime s; place = greatestPlace s }
 unfolding greatest
@@ -210,16 +203,9 @@ came-to : (n : ℕ) (s : Reach) {r : OpenAnswer} {e : OpenLeft} → OpenCameTo (
     → (r ≡ record { refusal = n; «cell_length» = s .cellLength; held = s .held })
     × (e ≡ record { bed = s .bed; depth = s .depth; discharge = s .discharge; mass = s .mass; base = s .base; carried = s .carried })
 came-to n s {r} {e} k = (
-  answer r n (s .cellLength) (s .held) (k .refusal-is) (k .length-is) (k .held-is),
-  columns e (s .bed) (s .depth) (s .discharge) (s .mass) (s .base) (s .carried) (k .bed-is) (k .depth-is) (k .discharge-is) (k .mass-is) (k .base-is) (k .carried-is),
+  open-is r n (s .cellLength) (s .held) (k .refusal-is) (k .length-is) (k .held-is),
+  six e (s .bed) (s .depth) (s .discharge) (s .mass) (s .base) (s .carried) (k .bed-is) (k .depth-is) (k .discharge-is) (k .mass-is) (k .base-is) (k .carried-is),
 )
-  where
-    answer : (r : OpenAnswer) (n x : ℕ) (h : Held) → r .refusal ≡ n → r .«cell_length» ≡ x → r .held ≡ h → r ≡ record { refusal = n; «cell_length» = x; held = h }
-    answer r n x h p q o = rw (sym p, sym q, sym o) refl
-
-    columns : (e : OpenLeft) (z : List ℤ) (d : List ℕ) (q : List ℤ) (m b : List ℕ) (c : List ℤ) → e .bed ≡ z → e .depth ≡ d → e .discharge ≡ q → e .mass ≡ m → e .base ≡ b → e .carried ≡ c
-        → e ≡ record { bed = z; depth = d; discharge = q; mass = m; base = b; carried = c }
-    columns e z d q m b c pz pd pq pm pb pc = rw (sym pz, sym pd, sym pq, sym pm, sym pb, sym pc) refl
 
 pub read-back : ReadBack
 unfolding sheetSize
