@@ -1,12 +1,15 @@
 /* A controller's loop: opens a sheet, follows an hour of canal time with the greatest steps, changes the dose at the head twice, prints what passed
  * the boundaries, writes the sheet and opens it again. What it prints keeps the paper's words: a settling is a transport, nutrient is mass.
+ * With WANT two outlets, a third and two thirds down the reach, each want so many micrometres per step until the second dose, when the first of
+ * them is closed.
  *
- *     controller IN.sheet OUT.sheet
+ *     controller IN.sheet OUT.sheet [WANT]
  */
 #include "jemmyfern.h"
 
 #include <inttypes.h>
 #include <stdio.h>
+#include <stdlib.h>
 #include <string.h>
 
 #define CELLS JEMMYFERN_CELLS_MOST
@@ -21,15 +24,17 @@ struct reach {
     uint64_t mass[CELLS];
     uint64_t base[CELLS];
     int64_t carried[CELLS + 1];
+    jemmyfern_outlet outlets[2];
+    size_t outlet_count;
     uint64_t cell_length;
     jemmyfern_boundaries boundaries;
     jemmyfern_ledger ledger;
 };
 
-/* The columns of a record, as every call takes them */
+/* The columns and outlets of a record, as every call takes them */
 #define COLUMNS(r)                                                                                          \
     (r)->bed, (r)->n, (r)->depth, (r)->n, (r)->discharge, (r)->n, (r)->mass, (r)->n, (r)->base, (r)->n, \
-        (r)->carried, (r)->n + 1
+        (r)->carried, (r)->n + 1, (r)->outlets, (r)->outlet_count
 
 static struct reach reach, again;
 static uint8_t sheet[JEMMYFERN_SHEET_SIZE(CELLS) + 1];
@@ -78,8 +83,10 @@ static int same_record(const struct reach *a, const struct reach *b)
 
 int main(int argc, char **argv)
 {
-    if (argc != 3) {
-        fprintf(stderr, "usage: controller IN.sheet OUT.sheet\n");
+    char *end = "";
+    uint64_t want = argc == 4 ? strtoull(argv[3], &end, 10) : 0;
+    if ((argc != 3 && argc != 4) || *end != '\0') {
+        fprintf(stderr, "usage: controller IN.sheet OUT.sheet [WANT]\n");
         return 2;
     }
     FILE *in = fopen(argv[1], "rb");
@@ -90,6 +97,12 @@ int main(int argc, char **argv)
     size_t length = fread(sheet, 1, sizeof sheet, in);
     fclose(in);
 
+    if (argc == 4) {
+        size_t n = jemmyfern_cells(sheet, length);
+        for (size_t k = 0; k < 2; k++)
+            reach.outlets[k] = (jemmyfern_outlet){.cell = (k + 1) * n / 3, .want = want};
+        reach.outlet_count = 2;
+    }
     uint32_t number = open_sheet(&reach, sheet, length);
     if (number != 0)
         return refused("open", number);
@@ -109,6 +122,8 @@ int main(int argc, char **argv)
                 return refused("set boundaries", number);
             transports++;
             dose++;
+            if (dose == sizeof doses / sizeof *doses)
+                reach.outlets[0].want = 0;
         }
         jemmyfern_greatest g = jemmyfern_greatest_step(COLUMNS(&reach), reach.cell_length, reach.boundaries, reach.ledger);
         if (g.refusal != 0)
@@ -134,6 +149,9 @@ int main(int argc, char **argv)
     printf("steps %" PRIu32 " settlings %" PRIu32 "\n", steps, transports);
     print_totals("left", &reach.ledger.left);
     print_totals("right", &reach.ledger.right);
+    for (size_t k = 0; k < reach.outlet_count; k++)
+        printf("outlet at %" PRIu64 " water %" PRIu64 " nutrient %" PRIu64 "\n", reach.outlets[k].cell, reach.outlets[k].water,
+               reach.outlets[k].mass);
 
     length = JEMMYFERN_SHEET_SIZE(reach.n);
     a = jemmyfern_write(COLUMNS(&reach), reach.cell_length, reach.boundaries, reach.ledger, sheet, length);

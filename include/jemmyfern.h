@@ -1,7 +1,8 @@
 /* A reach of an irrigation canal in whole units: the six proved calls, for C.
  *
- * The reach is straight and rectangular, n equal cells between two boundaries, per metre of width, without friction and without inflow or outlets
- * along it. Its record is six arrays, a cell length, two boundaries and a ledger; all of it is the caller's.
+ * The reach is straight and rectangular, n equal cells between two boundaries, per metre of width, without friction and without inflow along it; up
+ * to 32 outlets draw water from its cells. Its record is six arrays, a list of outlets, a cell length, two boundaries and a ledger; all of it is
+ * the caller's. Without outlets the list is NULL, 0.
  *
  * The words are those of the field. Where the paper that describes the model has another, it stands once in quotes at the definition; the
  * README's glossary pairs them all.
@@ -16,11 +17,12 @@
  *   time step              ms
  *   concentration          micrograms per litre; of a cell it is mass / base depth, and there is none where the base depth is 0
  *   mass                   grains: one micrometre of depth at concentration 1; times cell length / 10^12 is g per metre of width
- *   water in the ledger    micrometres of depth of one cell; times cell length / 10^9 is m3 per metre of width
+ *   water of a total       micrometres of depth of one cell; times cell length / 10^9 is m3 per metre of width; of an outlet as of the ledger
  *
  * A record is sound when
  *   - every value keeps the limits below,
- *   - at each cell i: depth = base + carried[i] - carried[i+1], and max(carried[i+1], 0) + max(-carried[i], 0) <= base,
+ *   - at each cell i, with D what its outlets have `drawn` together: depth = base + carried[i] - carried[i+1] - D, and
+ *     max(carried[i+1], 0) + max(-carried[i], 0) + D <= base,
  *   - carried is 0 at a boundary that is a wall.
  *   An opening makes a sound record, and every accepted call leaves one. Every call looks again at all of it, so memory that was damaged between two
  *   calls is refused and not used.
@@ -28,16 +30,24 @@
  * Memory
  *   Nothing is allocated and nothing is kept between two calls: there is no global state, so calls may run at the same time on different records.
  *   Each array goes as a pointer and its number of entries; it is aligned as its type is (8 bytes for 64-bit entries, none for bytes), may be NULL
- *   only where its length is 0, and no array that a call may write overlaps another. A step needs about 14 KiB of stack, the other calls 8 KiB at
- *   most; see the README.
+ *   only where its length is 0, and no array that a call may write overlaps another. That holds of the list of outlets too, whose entries are 40
+ *   bytes each. For the stack that each call needs see the README.
  *
  * Refusals
- *   A call answers 0, or the number of the first ground in the list below that it does not stand. A refused call has written nothing: columns and
- *   output are as they were, `boundaries` and `ledger` of its answer are those that it was given, its other fields are 0.
+ *   A call answers 0, or the number of the first ground in the list below that it does not stand. A refused call has written nothing: columns,
+ *   outlets and output are as they were, `boundaries` and `ledger` of its answer are those that it was given, its other fields are 0.
  *
  * Order of work
  *   Open; then step, with greatest_step to tell how long a step may be, and set_boundaries when a gate or a dose changes; transport before you
- *   write. A sheet holds no ledger: an opening starts all eight totals at 0, so keep the ledger before you open again.
+ *   write. A sheet holds no ledger and no outlets: an opening starts all eight totals and those of the outlets lent to it at 0, so keep them before
+ *   you open again.
+ *
+ * Outlets
+ *   The list goes with the record: an opening makes it ready, and each call is given it as the last one left it. In between the caller changes
+ *   `want` alone. What a cell can give in a step is its depth before the step less what the step sends out of it to either side (towards a wall
+ *   too; what comes in during the step does not count). Where the wants of its outlets fit into that, each has its want; where not, each has
+ *   floor(what the cell can give * want / sum of the wants), and the units left go singly, in list order, to those with a want above 0. No outlet
+ *   draws more than it wants. A transport gives it the mass of what it drew, after the shares of the right and the left, in list order.
  *
  * The sheet (little-endian, at any address)
  *   bytes 0 edition 1, 4 length in bytes, 8 n, 12 cell length, 16 20 24 28 offsets of bed levels (i32), depths (u32), discharges (i64) and masses
@@ -64,7 +74,9 @@ extern "C" {
 #define JEMMYFERN_CELL_LENGTH_LEAST 100u                 /* mm */
 #define JEMMYFERN_CELL_LENGTH_MOST 100000u               /* mm */
 #define JEMMYFERN_TIME_STEP_MOST 1000u                   /* ms, at least 1 */
-#define JEMMYFERN_TOTAL_MOST UINT64_C(1000000000000000000) /* each total of the ledger */
+#define JEMMYFERN_OUTLETS_MOST 32u                       /* entries of the list */
+#define JEMMYFERN_WANT_MOST 4000000u                     /* micrometres per step */
+#define JEMMYFERN_TOTAL_MOST UINT64_C(1000000000000000000) /* each total of the ledger and of an outlet */
 
 /* Bytes of the sheet of n cells */
 #define JEMMYFERN_SHEET_SIZE(n) (80u + 24u * (size_t)(n))
@@ -78,8 +90,8 @@ static inline size_t jemmyfern_cells(const uint8_t *sheet, size_t length)
     return n <= JEMMYFERN_CELLS_MOST ? n : 0;
 }
 
-/* Grounds for refusal, in checking order. Opening uses 1 to 7; every other call 4 to 9, then a step 10 to 13, a transport or a setting of
- * boundaries 13, a write 14 and 15. */
+/* Grounds for refusal, in checking order, 16 after 7. Opening uses 1 to 7 and 16; every other call 4 to 7, 16, 8 and 9, then a step 10 to 13, a
+ * transport or a setting of boundaries 13, a write 14 and 15. */
 enum jemmyfern_refusal {
     JEMMYFERN_ACCEPTED = 0,
     JEMMYFERN_EDITION = 1,          /* the sheet is under 80 bytes or its edition is not 1 */
@@ -89,13 +101,14 @@ enum jemmyfern_refusal {
     JEMMYFERN_CELL_LENGTH = 5,      /* the cell length is out of range */
     JEMMYFERN_BOUNDARIES = 6,       /* a boundary, held or newly given, breaks its kind, or its reserved field is not 0 */
     JEMMYFERN_VALUES = 7,           /* a cell value is out of range */
-    JEMMYFERN_CARRIED = 8,          /* the carried water breaks its rules */
-    JEMMYFERN_LEDGER = 9,           /* a total exceeds 10^18 */
+    JEMMYFERN_OUTLETS = 16,         /* over 32 outlets, an outlet's cell is not in the reach, or its want is above 4,000,000 */
+    JEMMYFERN_CARRIED = 8,          /* the carried or drawn water breaks its rules */
+    JEMMYFERN_LEDGER = 9,           /* a total, of the ledger or of an outlet, exceeds 10^18 */
     JEMMYFERN_TIME_STEP = 10,       /* t is outside 1..1,000 */
     JEMMYFERN_CFL = 11,             /* t is too long for the fastest water */
     JEMMYFERN_DEPTH = 12,           /* a new depth exceeds 4,000,000 */
-    JEMMYFERN_TOTAL = 13,           /* a total would pass 10^18 by this call */
-    JEMMYFERN_NOT_TRANSPORTED = 14, /* writing: some carried water is not 0; transport first */
+    JEMMYFERN_TOTAL = 13,           /* a total, of the ledger or of an outlet, would pass 10^18 by this call */
+    JEMMYFERN_NOT_TRANSPORTED = 14, /* writing: some carried or drawn water is not 0; transport first */
     JEMMYFERN_SHORT_OUTPUT = 15     /* the output is shorter than the sheet */
 };
 
@@ -134,7 +147,16 @@ typedef struct {
     jemmyfern_totals right;
 } jemmyfern_ledger;
 
-/* Answers. `boundaries` and `ledger` are those to hand to the next call. */
+/* An outlet: draws water from one cell. Several may draw from the same cell. */
+typedef struct {
+    uint64_t cell;  /* counted from 0, below n; stays */
+    uint64_t want;  /* micrometres per step, at most 4,000,000; the caller's to change between calls */
+    uint64_t drawn; /* micrometres since the last transport: grows with each step, 0 after a transport and after an opening */
+    uint64_t water; /* micrometres since the opening: grows with each step */
+    uint64_t mass;  /* grains since the opening, the paper's 'nutrient': grows with each transport, also one that a step or a setting makes */
+} jemmyfern_outlet;
+
+/* Answers. `boundaries` and `ledger` are those to hand to the next call. The list of outlets is brought up to date in place. */
 typedef struct {
     uint32_t refusal;
     jemmyfern_boundaries boundaries;
@@ -166,30 +188,35 @@ typedef struct {
 
 /* The columns, in this order in every call: bed level (the paper's 'bottom'), depth, discharge, mass (the paper's 'nutrient') and base depth,
  * the depth at the last transport, of each of the n cells; carried water, what crossed since the last transport, positive rightwards, of the n+1
- * interfaces. Each is a pointer and its number of entries. */
+ * interfaces. Each is a pointer and its number of entries. The list of outlets follows them in the same way; greatest_step and write do not
+ * write it. */
 
-/* Opens a sheet into the columns. */
+/* Opens a sheet into the columns. Of each outlet lent, cell and want are looked at and kept; drawn, water and mass may be anything and become 0. */
 jemmyfern_opened jemmyfern_open(const uint8_t *sheet, size_t sheet_length,
                                 int64_t *bed, size_t bed_length, uint64_t *depth, size_t depth_length,
                                 int64_t *discharge, size_t discharge_length, uint64_t *mass, size_t mass_length,
-                                uint64_t *base, size_t base_length, int64_t *carried, size_t carried_length);
+                                uint64_t *base, size_t base_length, int64_t *carried, size_t carried_length,
+                                jemmyfern_outlet *outlets, size_t outlets_length);
 
-/* One water step of t ms. */
+/* One water step of t ms; outlets draw. */
 jemmyfern_stepped jemmyfern_step(const int64_t *bed, size_t bed_length, uint64_t *depth, size_t depth_length,
                                  int64_t *discharge, size_t discharge_length, uint64_t *mass, size_t mass_length,
                                  uint64_t *base, size_t base_length, int64_t *carried, size_t carried_length,
+                                 jemmyfern_outlet *outlets, size_t outlets_length,
                                  uint64_t cell_length, jemmyfern_boundaries boundaries, jemmyfern_ledger ledger, uint64_t t);
 
-/* A transport, the paper's 'settling': moves the mass with the water carried since the last one. */
+/* A transport, the paper's 'settling': moves the mass with the water carried and drawn since the last one. */
 jemmyfern_answer jemmyfern_transport(const int64_t *bed, size_t bed_length, const uint64_t *depth, size_t depth_length,
                                      const int64_t *discharge, size_t discharge_length, uint64_t *mass, size_t mass_length,
                                      uint64_t *base, size_t base_length, int64_t *carried, size_t carried_length,
+                                     jemmyfern_outlet *outlets, size_t outlets_length,
                                      uint64_t cell_length, jemmyfern_boundaries boundaries, jemmyfern_ledger ledger);
 
 /* Sets both boundaries, the paper's 'end setting', after a transport under those held so far. */
 jemmyfern_answer jemmyfern_set_boundaries(const int64_t *bed, size_t bed_length, const uint64_t *depth, size_t depth_length,
                                           const int64_t *discharge, size_t discharge_length, uint64_t *mass, size_t mass_length,
                                           uint64_t *base, size_t base_length, int64_t *carried, size_t carried_length,
+                                          jemmyfern_outlet *outlets, size_t outlets_length,
                                           uint64_t cell_length, jemmyfern_boundaries boundaries, jemmyfern_ledger ledger,
                                           jemmyfern_boundaries new_boundaries);
 
@@ -198,12 +225,14 @@ jemmyfern_greatest jemmyfern_greatest_step(const int64_t *bed, size_t bed_length
                                            const int64_t *discharge, size_t discharge_length,
                                            const uint64_t *mass, size_t mass_length, const uint64_t *base, size_t base_length,
                                            const int64_t *carried, size_t carried_length,
+                                           const jemmyfern_outlet *outlets, size_t outlets_length,
                                            uint64_t cell_length, jemmyfern_boundaries boundaries, jemmyfern_ledger ledger);
 
 /* Writes the record as a sheet at the start of out; bytes behind the sheet keep their values. Transport first. */
 jemmyfern_answer jemmyfern_write(const int64_t *bed, size_t bed_length, const uint64_t *depth, size_t depth_length,
                                  const int64_t *discharge, size_t discharge_length, const uint64_t *mass, size_t mass_length,
                                  const uint64_t *base, size_t base_length, const int64_t *carried, size_t carried_length,
+                                 const jemmyfern_outlet *outlets, size_t outlets_length,
                                  uint64_t cell_length, jemmyfern_boundaries boundaries, jemmyfern_ledger ledger,
                                  uint8_t *out, size_t out_length);
 

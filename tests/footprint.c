@@ -1,4 +1,5 @@
-/* Stack that each call uses on the longest reach, in bytes: the call runs on a stack of its own that was painted before. */
+/* Stack that each call uses on the longest reach, in bytes, without outlets and with as many as there may be: the call runs on a stack of its own that
+ * was painted before. */
 #include "jemmyfern.h"
 
 #include <stdio.h>
@@ -8,10 +9,13 @@
 #define CELLS JEMMYFERN_CELLS_MOST
 #define ROOM (256u * 1024u)
 #define PAINT 0xA5
-#define COLUMNS bed, CELLS, depth, CELLS, discharge, CELLS, mass, CELLS, base, CELLS, carried, CELLS + 1
+#define OUTLETS JEMMYFERN_OUTLETS_MOST
+#define COLUMNS bed, CELLS, depth, CELLS, discharge, CELLS, mass, CELLS, base, CELLS, carried, CELLS + 1, outlets, count
 
 static int64_t bed[CELLS], discharge[CELLS], carried[CELLS + 1];
 static uint64_t depth[CELLS], mass[CELLS], base[CELLS];
+static jemmyfern_outlet outlets[OUTLETS];
+static size_t count;
 static uint8_t sheet[JEMMYFERN_SHEET_SIZE(CELLS)];
 static jemmyfern_boundaries boundaries;
 static jemmyfern_ledger ledger;
@@ -79,23 +83,52 @@ static void make_sheet(void)
     }
 }
 
-int main(void)
+/* Half of them along the reach, half at one cell, which has to share */
+static void make_outlets(void)
 {
-    static const struct {
-        const char *name;
-        void (*call)(void);
-    } calls[] = {{"open", open_}, {"greatest step", greatest}, {"step", step}, {"set boundaries", set_boundaries},
-                 {"transport", transport}, {"write", write_}};
-    make_sheet();
-    size_t frame = used(none), most = 0;
-    for (size_t i = 0; i < sizeof calls / sizeof *calls; i++) {
-        size_t bytes = used(calls[i].call) - frame;
+    for (size_t k = 0; k < OUTLETS; k++)
+        outlets[k] = (jemmyfern_outlet){.cell = k % 2 == 0 ? 16 * k : 100, .want = k % 2 == 0 ? 500 : 4000000};
+}
+
+static const struct {
+    const char *name;
+    void (*call)(void);
+} calls[] = {{"open", open_}, {"greatest step", greatest}, {"step", step}, {"set boundaries", set_boundaries},
+             {"transport", transport}, {"write", write_}};
+
+#define CALLS (sizeof calls / sizeof *calls)
+
+/* The bytes of each call with so many outlets; nothing where one was refused */
+static int measure(size_t bytes[CALLS], size_t entries)
+{
+    size_t frame = used(none);
+    count = entries;
+    for (size_t i = 0; i < CALLS; i++) {
+        bytes[i] = used(calls[i].call) - frame;
         if (refusal != 0) {
             fprintf(stderr, "%s: refused %u\n", calls[i].name, (unsigned)refusal);
+            return 0;
+        }
+    }
+    return 1;
+}
+
+int main(void)
+{
+    size_t without[CALLS], with[CALLS], most = 0;
+    make_sheet();
+    make_outlets();
+    if (!measure(without, 0) || !measure(with, OUTLETS))
+        return 1;
+    for (size_t k = 0; k < OUTLETS; k++)
+        if (outlets[k].water == 0 || outlets[k].mass == 0) {
+            fprintf(stderr, "outlet %zu drew nothing\n", k);
             return 1;
         }
-        printf("%-14s %6zu bytes of stack\n", calls[i].name, bytes);
-        most = bytes > most ? bytes : most;
+    for (size_t i = 0; i < CALLS; i++) {
+        printf("%-14s %6zu bytes of stack, %6zu with %u outlets\n", calls[i].name, without[i], with[i], OUTLETS);
+        most = without[i] > most ? without[i] : most;
+        most = with[i] > most ? with[i] : most;
     }
     return most < 65536 ? 0 : 1;
 }

@@ -7,16 +7,17 @@ use native.Mathlib.Omega.{arith}
 use lib.Dec.{leb}
 use Rattle.numbers.specs.Index.{allOf, allBelow}
 use Rattle.cfl.specs.Cfl.{meetsCfl}
+use Rattle.outlet.specs.Outlets.{fromCell}
 use Rattle.reach.specs.Reach.{cells}
-use Rattle.reach.specs.Grounds.{lengthsFit, cellLengthFits, wallFits, openFits, fedFits, kindFits, boundaryFits, boundariesFit, cellFits, cellsFit, carriedFits, carriedCellsFit, shutFits, carriedFit, totalsFit, ledgerFits}
+use Rattle.reach.specs.Grounds.{lengthsFit, cellLengthFits, wallFits, openFits, fedFits, kindFits, boundaryFits, boundariesFit, cellFits, cellsFit, carriedFits, carriedCellsFit, shutFits, carriedFit, totalsFit, ledgerFits, outletFits, outletsFit, outletTotalsFit, allTotalsFit}
 use Rattle.reach.proofs.PartsLaws.{outflow-is}
 use Rattle.sheet.specs.Header.{sheetSize, editionFits, sizeFits, inside, apart, apartFrom, columnsClear, spansOf}
 use Rattle.sheet.specs.Opening.{lentFit, sheetRecord}
 use Rattle.timestep.specs.GreatestStep.{placeSpeed}
-use Rattle.water.specs.Water.{newDepth}
+use Rattle.water.specs.Water.{newDepth, undrawnDepth}
 use Rattle.transport.specs.Calls.{afterTransport}
 use Rattle.update.specs.Step.{timeFits, depthsFit, afterStep}
-use Rattle.writing.specs.Writing.{noneCarried, roomFits}
+use Rattle.writing.specs.Writing.{noneCarried, noneDrawn, roomFits}
 use Rattle.demands.specs.Limits.{Limits, Lists}
 
 -- the tests of four columns, in one row
@@ -41,7 +42,7 @@ two-more : (n : ℕ) → suc (n + 1) ≡ n + 2
 two-more n = omega arith
 
 pub limits : Limits
-unfolding newDepth sheetSize editionFits sizeFits inside apart spansOf lentFit lengthsFit cellLengthFits wallFits openFits fedFits kindFits boundaryFits boundariesFit cellFits cellsFit carriedFits carriedCellsFit shutFits carriedFit totalsFit ledgerFits timeFits meetsCfl depthsFit noneCarried roomFits apartFrom columnsClear
+unfolding newDepth undrawnDepth fromCell sheetSize editionFits sizeFits inside apart spansOf lentFit lengthsFit cellLengthFits wallFits openFits fedFits kindFits boundaryFits boundariesFit cellFits cellsFit carriedFits carriedCellsFit shutFits carriedFit totalsFit ledgerFits outletFits outletsFit outletTotalsFit allTotalsFit timeFits meetsCfl depthsFit noneCarried noneDrawn roomFits apartFrom columnsClear
 limits = record {
   edition = λ s. refl;
   size = λ s. refl;
@@ -60,16 +61,22 @@ limits = record {
   boundaries = λ es. refl;
   cell = λ z h q m b. refl;
   each-cell = λ z h q m b. refl;
-  carried = λ h b l r. rw (outflow-is l r) refl;
-  carried-each-cell = λ h b c. refl;
+  outlet = λ n o. refl;
+  outlets = λ n os. refl;
+  carried = λ h b l r drawn. rw (outflow-is l r drawn) refl;
+  carried-each-cell = λ h b c drawn. refl;
+  drawn = λ os i. refl;
   carried-at-wall = λ kind c. refl;
-  carried-all = λ h b c left right. refl;
+  carried-all = λ h b c drawn left right. refl;
   totals = λ t. refl;
   ledger = λ k. refl;
+  outlet-totals = λ o. refl;
+  all-totals = λ h. refl;
   time = λ t. refl;
   cfl = λ s t. ap (λ (k : ℕ). allBelow k (λ i. leb (t * placeSpeed s i) (1_000 * s .cellLength))) (two-more (cells s));
   new-depths = λ s t. refl;
   none-carried = λ c. refl;
+  none-drawn = λ os. refl;
   room = λ n r. refl;
 }
 
@@ -80,5 +87,5 @@ lists = record {
   step-list = λ s t. refl;
   transport-list = λ s es. refl;
   write-list = λ s room. refl;
-  open-list = λ s z h q m b c. refl;
+  open-list = λ s z h q m b c os. refl;
 }

@@ -1,46 +1,56 @@
 -- Document 01's sentences about amounts and calls, from the laws of the definitions.
 use mathlib.Core.Path.{_≡_, refl, sym, ap, _∙_, subst}
-use mathlib.Core.Bool.{true}
-use mathlib.Core.List.{List}
-use Prim.Native.Nat.{ℕ, suc, _+_, _*_, _≤_, _<_}
+use mathlib.Core.Bool.{Bool, true, false, cond, _&&_, and-true}
+use mathlib.Core.List.{List, [], _∷_}
+use Prim.Native.Nat.{ℕ, suc, _+_, _-_, _*_, _/_, _≤_, _<_}
+use native.Mathlib.Nat.{add-zero}
 use native.Mathlib.Omega.{arith}
 use borrow.Author.Tests.{le-leb, leb-true}
 use denote.Ref.{now}
-use lib.Dec.{leb}
-use lib.IntN.{ℤ, negℤ}
+use lib.Dec.{leb, eqb}
+use lib.IntN.{ℤ, pos, negℤ, _+ℤ_, _-ℤ_}
 use lib.ListN.{getD}
+use Rattle.numbers.specs.Index.{allOf, allBelow, sumBelow, sum, tabulate}
+use Rattle.numbers.specs.Shares.{share}
 use Rattle.numbers.specs.Signed.{positive}
-use Rattle.numbers.proofs.IndexLaws.{all-at, all-below}
+use Rattle.numbers.proofs.IndexLaws.{all-at, all-below, all-same, getD-tabulate, sum-same}
+use Rattle.numbers.proofs.SignedLaws.{from-cross, minus-cross, pos-cross}
 use Rattle.numbers.proofs.RootLaws.{square-root-low, square-root-greatest}
 use Rattle.flux.specs.Wave.{waveSpeed}
 use Rattle.flux.proofs.CrossingLaws.{lower-le-upper, water-flux-dry, momentum-flux-dry, still-thrust-dry}
 use Rattle.cfl.specs.Cfl.{meetsCfl}
 use Rattle.cfl.proofs.CflLaws.{fastest-greatest, fastest-lowest, greatest-step-meets, greatest-step-greatest}
-use Rattle.reach.specs.Reach.{Reach, cells, baseAt, carriedAt}
-use Rattle.reach.specs.Grounds.{firstRefusal, numberOf, boundariesFit, recordGrounds}
+use Rattle.outlet.specs.Outlets.{outletAt, fromCell, eachOutlet}
+use Rattle.outlet.specs.declared.Outlets.{Outlets}
+use Rattle.reach.specs.Reach.{Reach, cells, massAt, baseAt, carriedAt}
+use Rattle.reach.specs.Grounds.{firstRefusal, numberOf, boundariesFit, outletsFit, carriedFits, ledgerFits, allTotalsFit, recordGrounds}
 use Rattle.reach.specs.Outcome.{Outcome}
-use Rattle.reach.specs.Parts.{outflow}
+use Rattle.reach.specs.Parts.{outflow, drawnFrom}
 use Rattle.reach.specs.declared.boundary.Boundary.{Boundary}
 use Rattle.reach.specs.declared.refusal.Check.{Check}
 use Rattle.reach.specs.declared.refusal.Check.the-variants.{Pass}
 use Rattle.reach.proofs.PartsLaws.{outflow-is}
 use Rattle.reach.proofs.Sound.{Sound, sound}
-use Rattle.mass.specs.Transport.{rightwards, leftwards}
-use Rattle.mass.proofs.TransportLaws.{right-share-floor, left-share-floor}
-use Rattle.transport.specs.Calls.{massColumnsOf, transport, setBoundaries}
+use Rattle.mass.specs.Transport.{rightwards, leftwards, outletShare}
+use Rattle.mass.proofs.TransportLaws.{right-share-floor, left-share-floor, outlet-share-at}
+use Rattle.transport.specs.Calls.{massColumnsOf, afterTransport, transport, setBoundaries}
 use Rattle.transport.proofs.CallsLaws.{emptied-at, by-transport, stands-again, transport-is, left-by-setting, left-by-transport}
 use Rattle.timestep.specs.GreatestStep.{placeSpeed, greatest, greatestTime, greatestPlace}
 use Rattle.timestep.specs.declared.GreatestAnswer.{GreatestAnswer}
 use Rattle.timestep.proofs.GreatestLaws.{time-in-range, dry-reach}
+use Rattle.water.specs.Water.{netAt, wantsFrom, draws, newDepth, undrawnDepth}
+use Rattle.water.specs.Ranges.{granted}
+use Rattle.water.proofs.WaterLaws.{granted-is, draw-most}
+use Rattle.update.specs.Step.{summed, summedDrawn, keepsSums, transportedFirst, stepOutlets, stepHeld, afterStep}
 use Rattle.update.proofs.StepLaws.{step-stands-again}
 use Rattle.stepping.proofs.StepCallLaws.{left-by-step}
-use Rattle.sheet.specs.Opening.{noneHeld}
 use Rattle.sheet.proofs.OpeningLaws.{opened-stands, left-by-opening}
+use Rattle.writing.specs.Writing.{noneDrawn}
 use Rattle.jemmyfern_c.proofs.Functions.{given}
 use Rattle.demands.specs.Demand1.{First}
-use Rattle.demands.specs.Model.{Amounts, NoGrainKept, Fastest, GreatestStep, Stands, StandsAgain}
+use Rattle.demands.specs.Model.{Amounts, Drawing, WithNoOutlet, NoGrainKept, Fastest, GreatestStep, Stands, StandsAgain}
 use Rattle.demands.proofs.Demand1Laws.{first}
-use Rattle.demands.proofs.Demand2Laws.{greatest-stood, greatest-is}
+use Rattle.demands.proofs.Demand2Laws.{transported-count, lentBy, greatest-stood, greatest-is}
 
 pub amounts : Amounts
 unfolding waveSpeed
@@ -55,15 +65,76 @@ amounts = record {
   left-share = λ s i. left-share-floor (massColumnsOf s) i;
 }
 
+-- an entry of what is drawn of a cell
+drawn-at : (os : Outlets) (i k : ℕ) → k < os .count → getD (drawnFrom os i) k 0 ≡ cond (eqb (outletAt os k .cell) i) (outletAt os k .drawn) 0
+unfolding fromCell
+drawn-at os i k l = getD-tabulate (os .count) (λ j. cond (eqb (outletAt os j .cell) i) (outletAt os j .drawn) 0) k 0 l
+
+share-of : (s : Reach) (i k : ℕ) → k < s .held .outlets .count →
+    let D = positive (carriedAt s (i + 1)) + positive (negℤ (carriedAt s i)) + sumBelow k (λ j. getD (drawnFrom (s .held .outlets) i) j 0) in
+    outletShare (massColumnsOf s) i k ≡ massAt s i * (D + getD (drawnFrom (s .held .outlets) i) k 0) / baseAt s i - massAt s i * D / baseAt s i
+unfolding share
+share-of s i k l =
+    let os = s .held .outlets in
+    let one : ℕ → ℕ = λ j. cond (eqb (outletAt os j .cell) i) (outletAt os j .drawn) 0 in
+    let same : sumBelow k (λ j. getD (drawnFrom os i) j 0) ≡ sumBelow k one = sum-same k _ one (λ j q. drawn-at os i j (omega (arith, q, l))) in
+    rw (same, drawn-at os i k l) (outlet-share-at (s .mass) (s .base) (s .carried) os _ _ i k l)
+
+pub drawing : Drawing
+unfolding granted
+drawing = record {
+  each-most = λ s t k l. draw-most s t k l;
+  all-lesser = λ s t i. granted-is s t i;
+  share = λ s i k l. share-of s i k l;
+}
+
+-- ---- no outlet
+
+drawn-none : (os : Outlets) (i : ℕ) → os .count ≡ 0 → drawnFrom os i ≡ []
+unfolding fromCell tabulate
+drawn-none os i e = rw e refl
+
+nothing-drawn : (s : Reach) (t i : ℕ) → s .held .outlets .count ≡ 0 → (sum (draws s t i) ≡ 0) × (summedDrawn s t i ≡ [])
+unfolding granted fromCell summedDrawn tabulate sum
+nothing-drawn s t i e =
+    let none : sum (wantsFrom (s .held .outlets) i) ≡ 0 = rw e refl in
+    (granted-is s t i ∙ omega (arith, none), rw e refl)
+
+less-nothing : (x : ℤ) (d : ℕ) → d ≡ 0 → x -ℤ pos d ≡ x
+less-nothing x d e = from-cross (x -ℤ pos d) x (omega (arith, e, minus-cross x (pos d), pos-cross d))
+
+first-count : (s : Reach) (t : ℕ) → transportedFirst s t .held .outlets .count ≡ s .held .outlets .count
+unfolding transportedFirst
+first-count s t = go (keepsSums s t)
+  where
+    go : (b : Bool) → cond b s (afterTransport s) .held .outlets .count ≡ s .held .outlets .count
+    go true = refl
+    go false = transported-count s
+
+pub with-no-outlet : WithNoOutlet
+unfolding outletsFit allBelow allOf carriedFits allTotalsFit noneDrawn newDepth undrawnDepth keepsSums summed afterStep stepHeld stepOutlets eachOutlet sum
+with-no-outlet = record {
+  fits = λ n os e. rw e refl;
+  none-drawn-from = drawn-none;
+  carried = λ h b l r. rw (outflow-is l r [], less-nothing (pos b +ℤ l -ℤ r) 0 refl, add-zero (positive r + positive (negℤ l))) refl;
+  totals = λ h e. rw e (and-true (ledgerFits (h .ledger)));
+  none-drawn = λ os e. rw e refl;
+  depth = λ s t i e. less-nothing _ (sum (draws s t i)) (nothing-drawn s t i e .0);
+  keeps = λ s t e. all-same _ _ (cells s) (λ i l. rw (nothing-drawn s t i e .1) (ap (λ (n : ℕ). leb n (baseAt s i)) (outflow-is _ _ [] ∙ add-zero _)));
+  step-none = λ s t e. first-count s t ∙ e;
+  transport-none = λ s e. transported-count s ∙ e;
+}
+
 pub no-grain-kept : NoGrainKept
 no-grain-kept κs l X h r e k z i w all =
     let s = given l X h in
-    let gone : outflow (carriedAt s i) (carriedAt s (i + 1)) ≡ baseAt s i = outflow-is (carriedAt s i) (carriedAt s (i + 1)) ∙ all in
-    ap (λ (m : List ℕ). getD m i 0) (k .mass-is)
+    let drawn = drawnFrom (s .held .outlets) i in
+    let gone : outflow (carriedAt s i) (carriedAt s (i + 1)) drawn ≡ baseAt s i = outflow-is (carriedAt s i) (carriedAt s (i + 1)) drawn ∙ all in
+    ap (λ (m : List ℕ). getD m i 0) (k .0 .mass-is)
     ∙ by-transport s (λ o. o .refusal ≡ 0 → getD (o .reach .mass) i 0 ≡ rightwards (massColumnsOf s) i + leftwards (massColumnsOf s) (i + 1))
     (λ n p y. absurd (omega (arith, p, y)))
     (λ b f y. emptied-at s b i w gone)
-    (sym (k .refusal-is) ∙ z)
+    (sym (k .0 .refusal-is) ∙ z)
 
 -- CFL at every place, by each of them
 meets-each : (s : Reach) (t : ℕ) → meetsCfl (placeSpeed s) (cells s + 1) (s .cellLength) t ≡ true → (i : ℕ) → i ≤ cells s + 1 → t * placeSpeed s i ≤ 1_000 * s .cellLength
@@ -104,12 +175,12 @@ passed {s} {s'} e f es g =
 
 pub stand-again : StandsAgain
 stand-again = record {
-  opening = λ κs sheet l r e k z. passed (left-by-opening k) (λ es g. opened-stands (now sheet) (given l 0 noneHeld) es (sym (k .refusal-is) ∙ z) g);
-  step = λ κs l X h t r e k z. passed (left-by-step (given l X h) t k) (λ es g. step-stands-again (given l X h) t es (sym (k .refusal-is) ∙ z) g);
+  opening = λ κs sheet l r e k z. passed (left-by-opening (k .0)) (λ es g. opened-stands (now sheet) (lentBy l) es (sym (k .0 .refusal-is) ∙ z) g);
+  step = λ κs l X h t r e k z. passed (left-by-step (given l X h) t (k .0)) (λ es g. step-stands-again (given l X h) t es (sym (k .0 .refusal-is) ∙ z) g);
   transport = λ κs l X h r e k z.
       let s = given l X h in
       let same = transport-is s in
-      passed (left-by-transport s k ∙ ap (λ (o : Outcome). o .reach) same)
-      (λ es g. stands-again s (h .boundaries) es (ap (λ (o : Outcome). o .refusal) (sym same) ∙ sym (k .refusal-is) ∙ z) g);
-  set-boundaries = λ κs l X h new r e k z. passed (left-by-setting (given l X h) new k) (λ es g. stands-again (given l X h) new es (sym (k .refusal-is) ∙ z) g);
+      passed (left-by-transport s (k .0) ∙ ap (λ (o : Outcome). o .reach) same)
+      (λ es g. stands-again s (h .boundaries) es (ap (λ (o : Outcome). o .refusal) (sym same) ∙ sym (k .0 .refusal-is) ∙ z) g);
+  set-boundaries = λ κs l X h new r e k z. passed (left-by-setting (given l X h) new (k .0)) (λ es g. stands-again (given l X h) new es (sym (k .0 .refusal-is) ∙ z) g);
 }

@@ -1,26 +1,34 @@
 -- Document 01, sentences that the definitions do not show as they stand: what holds of the amounts and of the calls that demand 2 names. (Names as in Demand1.antt.)
 use mathlib.Core.Path.{_≡_}
 use mathlib.Core.Bool.{true}
-use mathlib.Core.List.{List}
-use Prim.Native.Nat.{ℕ, _+_, _-_, _*_, _/_, _≤_, _<_}
+use mathlib.Core.List.{List, [], _∷_}
+use Prim.Native.Nat.{ℕ, suc, _+_, _-_, _*_, _/_, _≤_, _<_, min}
 use contract.Lifetimes.{Lfts}
 use denote.Ref.{RefT}
-use lib.IntN.{ℤ, negℤ}
+use lib.Dec.{leb}
+use lib.IntN.{ℤ, pos, _+ℤ_, _-ℤ_, negℤ, natAbs}
 use lib.ListN.{getD}
-use Rattle.numbers.specs.Signed.{positive}
+use Rattle.numbers.specs.Index.{allOf, allBelow, sumBelow, sum}
+use Rattle.numbers.specs.Signed.{positive, eqℤ}
+use Rattle.outlet.specs.Outlets.{outletAt}
+use Rattle.outlet.specs.declared.Outlets.{Outlets}
 use Rattle.flux.specs.Wave.{waveSpeed}
 use Rattle.flux.specs.Crossing.{upper, lower, waterFlux, momentumFlux, stillThrust}
 use Rattle.reach.specs.Reach.{Reach, cells, depthAt, massAt, baseAt, carriedAt, leftBoundary, rightBoundary}
-use Rattle.reach.specs.Grounds.{boundariesFit, recordGrounds}
+use Rattle.reach.specs.Parts.{drawnFrom}
+use Rattle.reach.specs.Grounds.{boundariesFit, outletsFit, carriedFits, ledgerFits, allTotalsFit, recordGrounds}
 use Rattle.reach.specs.declared.boundary.Boundary.{Boundary}
 use Rattle.reach.specs.declared.held.Held.{Held}
-use Rattle.mass.specs.Transport.{rightShare, leftShare, rightwards, leftwards}
-use Rattle.transport.specs.Calls.{massColumnsOf}
-use Rattle.transport.specs.declared.TransportAnswer.{TransportAnswer}
+use Rattle.mass.specs.Transport.{rightShare, leftShare, outletShare, rightwards, leftwards}
+use Rattle.transport.specs.Calls.{massColumnsOf, afterTransport}
+use Rattle.water.specs.Water.{netAt, available, wantsFrom, draws, drawOf, newDepth}
+use Rattle.update.specs.Step.{keepsSums, afterStep}
+use Rattle.writing.specs.Writing.{noneDrawn}
 use Rattle.timestep.specs.GreatestStep.{placeSpeed}
-use Rattle.timestep.specs.declared.GreatestAnswer.{GreatestAnswer}
-use Rattle.stepping.specs.declared.step.StepAnswer.{StepAnswer}
-use Rattle.sheet.specs.declared.opening.OpenAnswer.{OpenAnswer}
+use Rattle.jemmyfern_c.specs.declared.answer.Answer.{Answer}
+use Rattle.jemmyfern_c.specs.declared.answer.Opened.{Opened}
+use Rattle.jemmyfern_c.specs.declared.answer.Stepped.{Stepped}
+use Rattle.jemmyfern_c.specs.declared.answer.Greatest.{Greatest}
 use Rattle.jemmyfern_c.proofs.Functions.{Lent, given, OpenLeft, StepLeft, TransportLeft, OpenEnsures, StepEnsures, TransportEnsures, SettingEnsures, GreatestEnsures}
 use Rattle.demands.specs.Demand1.{First}
 use Rattle.demands.specs.Demand2.{stepped, transported, opened}
@@ -40,13 +48,44 @@ pub record Amounts : Type 0 where
   pub left-share : (s : Reach) (i : ℕ)
       → leftShare (massColumnsOf s) i ≡ massAt s i * (positive (carriedAt s (i + 1)) + positive (negℤ (carriedAt s i))) / baseAt s i - rightShare (massColumnsOf s) i
 
--- 'a dry cell keeps a grain' is an error: after an accepted settling a cell that gave all its water holds only what came to it over its two interfaces
+-- Document 02, point 1: what the outlets have
+pub record Drawing : Type 0 where
+  -- 'if the wants fit, each has its want': no outlet of a cell has more than it wants
+  pub each-most : (s : Reach) (t k : ℕ) → k < s .held .outlets .count → drawOf s t k ≤ outletAt (s .held .outlets) k .want
+  -- the draws of a cell add up to the lesser of what it can give and what is wanted of it
+  pub all-lesser : (s : Reach) (t i : ℕ) → sum (draws s t i) ≡ min (positive (available s t i)) (sum (wantsFrom (s .held .outlets) i))
+  -- 'shares follow right, left, then outlets in list order, by the same running floors': D is what is drawn of the cell by those before outlet k
+  pub share : (s : Reach) (i k : ℕ) → k < s .held .outlets .count →
+      let D = positive (carriedAt s (i + 1)) + positive (negℤ (carriedAt s i)) + sumBelow k (λ j. getD (drawnFrom (s .held .outlets) i) j 0) in
+      outletShare (massColumnsOf s) i k
+      ≡ massAt s i * (D + getD (drawnFrom (s .held .outlets) i) k 0) / baseAt s i - massAt s i * D / baseAt s i
+
+-- with no outlet, every amount, test and list of grounds is document 01's
+pub record WithNoOutlet : Type 0 where
+  -- 16 stands, and 8, 9 and 14 test what they tested
+  pub fits : (n : ℕ) (os : Outlets) → os .count ≡ 0 → outletsFit n os ≡ true
+  pub none-drawn-from : (os : Outlets) (i : ℕ) → os .count ≡ 0 → drawnFrom os i ≡ []
+  pub carried : (h b : ℕ) (l r : ℤ)
+      → carriedFits h b l r []
+      ≡ allOf (leb (natAbs l) 4_000_000 ∷ leb (natAbs r) 4_000_000 ∷ eqℤ (pos h) (pos b +ℤ l -ℤ r) ∷ leb (positive r + positive (negℤ l)) b ∷ [])
+  pub totals : (h : Held) → h .outlets .count ≡ 0 → allTotalsFit h ≡ ledgerFits (h .ledger)
+  pub none-drawn : (os : Outlets) → os .count ≡ 0 → noneDrawn os ≡ true
+  -- the step draws nothing
+  pub depth : (s : Reach) (t i : ℕ) → s .held .outlets .count ≡ 0 → newDepth s t i ≡ pos (depthAt s i) +ℤ netAt s t i -ℤ netAt s t (suc i)
+  pub keeps : (s : Reach) (t : ℕ) → s .held .outlets .count ≡ 0
+      → keepsSums s t
+      ≡ allBelow (cells s) (λ i. leb (positive (carriedAt s (suc i) +ℤ netAt s t (suc i)) + positive (negℤ (carriedAt s i +ℤ netAt s t i))) (baseAt s i))
+  -- and the list stays empty
+  pub step-none : (s : Reach) (t : ℕ) → s .held .outlets .count ≡ 0 → afterStep s t .held .outlets .count ≡ 0
+  pub transport-none : (s : Reach) → s .held .outlets .count ≡ 0 → afterTransport s .held .outlets .count ≡ 0
+
+-- 'a dry cell keeps a grain' is an error: after an accepted settling a cell that gave all its water, to its outlets too, holds only what came to it over its two interfaces
 abbrev pub NoGrainKept : Type 0
 NoGrainKept =
-    (κs : Lfts 6) (l : Lent) (X : ℕ) (k : Held) (r : TransportAnswer) (e : TransportLeft) → TransportEnsures κs l X k r e → r .refusal ≡ 0 →
+    (κs : Lfts 7) (l : Lent) (X : ℕ) (k : Held) (r : Answer) (e : TransportLeft) → TransportEnsures κs l X k r e → r .refusal ≡ 0 →
     let s = given l X k in
     (i : ℕ) → i < cells s →
-    positive (carriedAt s (i + 1)) + positive (negℤ (carriedAt s i)) ≡ baseAt s i →
+    positive (carriedAt s (i + 1)) + positive (negℤ (carriedAt s i)) + sum (drawnFrom (s .held .outlets) i) ≡ baseAt s i →
     getD (e .mass) i 0 ≡ rightwards (massColumnsOf s) i + leftwards (massColumnsOf s) (i + 1)
 
 -- 'The call answers the greatest t in 1..1,000 that meets CFL, and the place of the greatest |u|+a .. among equals the lowest place'
@@ -63,7 +102,7 @@ pub record Fastest (s : Reach) (time place : ℕ) : Type 0 where
 
 abbrev pub GreatestStep : Type 0
 GreatestStep =
-    (κs : Lfts 6) (l : Lent) (X : ℕ) (k : Held) (r : GreatestAnswer) → GreatestEnsures κs l X k r → r .refusal ≡ 0 →
+    (κs : Lfts 7) (l : Lent) (X : ℕ) (k : Held) (r : Greatest) → GreatestEnsures κs l X k r → r .refusal ≡ 0 →
     Fastest (given l X k) (r .time) (r .place)
 
 -- the record that an accepted call leaves stands grounds 4 to 9, whatever pair that fits the next call is given: no call of ours is the cause that the next is refused by them
@@ -71,8 +110,8 @@ abbrev pub Stands : Reach → Type 0
 Stands s = (pair : List Boundary) → boundariesFit pair ≡ true → First 0 (recordGrounds s pair)
 
 pub record StandsAgain : Type 0 where
-  pub opening : (κs : Lfts 7) (sheet : RefT (List ℕ)) (l : Lent) (r : OpenAnswer) (e : OpenLeft) → OpenEnsures κs sheet l r e → r .refusal ≡ 0 → Stands (opened r e)
-  pub step : (κs : Lfts 6) (l : Lent) (X : ℕ) (k : Held) (t : ℕ) (r : StepAnswer) (e : StepLeft) → StepEnsures κs l X k t r e → r .refusal ≡ 0 → Stands (stepped l X r e)
-  pub transport : (κs : Lfts 6) (l : Lent) (X : ℕ) (k : Held) (r : TransportAnswer) (e : TransportLeft) → TransportEnsures κs l X k r e → r .refusal ≡ 0 → Stands (transported l X r e)
-  pub set-boundaries : (κs : Lfts 6) (l : Lent) (X : ℕ) (k : Held) (new : List Boundary) (r : TransportAnswer) (e : TransportLeft) → SettingEnsures κs l X k new r e → r .refusal ≡ 0
+  pub opening : (κs : Lfts 8) (sheet : RefT (List ℕ)) (l : Lent) (r : Opened) (e : OpenLeft) → OpenEnsures κs sheet l r e → r .refusal ≡ 0 → Stands (opened r e)
+  pub step : (κs : Lfts 7) (l : Lent) (X : ℕ) (k : Held) (t : ℕ) (r : Stepped) (e : StepLeft) → StepEnsures κs l X k t r e → r .refusal ≡ 0 → Stands (stepped l X r e)
+  pub transport : (κs : Lfts 7) (l : Lent) (X : ℕ) (k : Held) (r : Answer) (e : TransportLeft) → TransportEnsures κs l X k r e → r .refusal ≡ 0 → Stands (transported l X r e)
+  pub set-boundaries : (κs : Lfts 7) (l : Lent) (X : ℕ) (k : Held) (new : List Boundary) (r : Answer) (e : TransportLeft) → SettingEnsures κs l X k new r e → r .refusal ≡ 0
       → Stands (transported l X r e)

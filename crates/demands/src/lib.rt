@@ -2,8 +2,8 @@
 ghost use Rattle.demands.specs.Demand1.{AsksNothing, RefusedByTheFirst, StaysAsItCame};
 ghost use Rattle.demands.specs.Limits.{Limits, Lists};
 ghost use Rattle.demands.specs.Demand2.{DigitForDigit, ReadBack, WroteAgain};
-ghost use Rattle.demands.specs.Demand3.{AfterEveryList, NoDepthBelowZero, TallyCourse};
-ghost use Rattle.demands.specs.Model.{Amounts, NoGrainKept, GreatestStep, StandsAgain};
+ghost use Rattle.demands.specs.Demand3.{AfterEveryList, NoDepthBelowZero, NoWantExceeded, AvailableFromZero, TallyCourse};
+ghost use Rattle.demands.specs.Model.{Amounts, Drawing, WithNoOutlet, NoGrainKept, GreatestStep, StandsAgain};
 
 pub fn demand_1()
     ensures { λ _. ⌜ AsksNothing ⌝ }
@@ -26,12 +26,16 @@ pub fn demand_2()
 pub fn demand_3()
     ensures { λ _. ⌜ AfterEveryList ⌝ }
     ensures { λ _. ⌜ NoDepthBelowZero ⌝ }
+    ensures { λ _. ⌜ NoWantExceeded ⌝ }
+    ensures { λ _. ⌜ AvailableFromZero ⌝ }
     ensures { λ _. ⌜ TallyCourse ⌝ }
 {}
 
 // Document 01's sentences that the definitions do not show as they stand
 pub fn model()
     ensures { λ _. ⌜ Amounts ⌝ }
+    ensures { λ _. ⌜ Drawing ⌝ }
+    ensures { λ _. ⌜ WithNoOutlet ⌝ }
     ensures { λ _. ⌜ NoGrainKept ⌝ }
     ensures { λ _. ⌜ GreatestStep ⌝ }
     ensures { λ _. ⌜ StandsAgain ⌝ }

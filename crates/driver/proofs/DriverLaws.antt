@@ -12,11 +12,11 @@ use Rattle.reach.specs.declared.refusal.Check.{Check}
 use Rattle.sheet.specs.Opening.{opening, sheetRecord, OpenCameTo}
 use Rattle.sheet.specs.declared.opening.OpenAnswer.{OpenAnswer}
 use Rattle.sheet.proofs.OpeningLaws.{by-opening, left-by-opening}
-use Rattle.tally.specs.Call.{Free, Entry, final}
+use Rattle.tally.specs.Call.{Entry, final}
 use Rattle.tally.specs.Tally.{start, run}
 use Rattle.tally.specs.Holds.{Holds}
 use Rattle.tally.proofs.TallyLaws.{of-definitions}
-use Rattle.script.specs.Script.{callAt, entriesFrom, script}
+use Rattle.script.specs.Script.{freeAt, callAt, entriesFrom, script}
 use Rattle.player.specs.Plays.{Plays}
 use Rattle.player.specs.declared.Played.{Played}
 use Rattle.driver.specs.Replay.{flag, noted, World, world, playedOne, playedFrom, ReplayCameTo}
@@ -29,18 +29,17 @@ unfoldable pub playedOn : (words sheets : List ℕ) (room n j : ℕ) → World �
 playedOn ws sheets room n j w = playedFrom w j (entriesFrom ws sheets room j (n - j))
 
 module _ (ws sheets : List ℕ) (room : ℕ) where
-  pub played-first : (w : World) → playedOn ws sheets room (length ws / 13) 0 w ≡ playedFrom w 0 (script ws sheets room)
+  pub played-first : (w : World) → playedOn ws sheets room (length ws / 206) 0 w ≡ playedFrom w 0 (script ws sheets room)
   unfolding playedOn script
-  played-first w = let e : length ws / 13 - 0 ≡ length ws / 13 = omega arith in rw e refl
+  played-first w = let e : length ws / 206 - 0 ≡ length ws / 206 = omega arith in rw e refl
 
   pub played-on : (n j : ℕ) (s : Reach) (out answers : List ℕ) {r : Played} {z : List ℤ} {h : List ℕ} {q : List ℤ} {m b : List ℕ} {k : List ℤ} {out' answers' : List ℕ}
-      → j < n → ((f : Free) → Plays s f (callAt ws sheets room (13 * j)) out r z h q m b k out')
+      → j < n → Plays s (freeAt ws (206 * j)) (callAt ws sheets room (206 * j)) out r z h q m b k out'
       → answers' ≡ noted answers j (r .refusal) (flag (r .transported)) (r .time) (r .place)
       → playedOn ws sheets room n (j + 1) (world (reachOf z h q m b k (r .«cell_length») (r .held)) out' answers') ≡ playedOn ws sheets room n j (world s out answers)
   unfolding playedOn playedFrom playedOne entriesFrom
-  played-on n j s out answers l p e =
+  played-on n j s out answers l o e =
       let f : n - j ≡ suc (n - (j + 1)) = omega arith in
-      let o = p (record {}) in
       rw (f, e, o .refusal-is, o .transported-is, o .time-is, o .place-is, o .reach-is, o .output-is, add-one) refl
 
   pub played-out : (n j : ℕ) (w : World) → n ≤ j → playedOn ws sheets room n j w ≡ w
@@ -60,7 +59,7 @@ unopened : (sheet : List ℕ) (l : Reach) → (opening sheet l .refusal ≡ 0 �
 unfolding opening
 unopened sheet l =
     by-opening sheet l
-    (λ (x : Check). (outcome x l (sheetRecord sheet) .refusal ≡ 0 → ⊥) → outcome x l (sheetRecord sheet) .reach ≡ l)
+    (λ (x : Check). (outcome x l (sheetRecord sheet (l .held .outlets)) .refusal ≡ 0 → ⊥) → outcome x l (sheetRecord sheet (l .held .outlets)) .reach ≡ l)
     (λ n p f. refl)
     (λ e f. absurd (f refl))
 
@@ -83,7 +82,7 @@ module _ (sheet words sheets : List ℕ) (l : Reach) (out answers : List ℕ) {r
       record {
         refusal-is = f ∙ sym e ∙ k .refusal-is;
         plays = λ o. record {
-          holds = subst (Holds (run (start sheet) (script words sheets (length out))))
+          holds = subst (Holds (run (start sheet (l .held .outlets)) (script words sheets (length out))))
               (sym (ap (λ (w : World). w .reach) a ∙ played-reach _ 0 (script words sheets (length out))))
               (of-definitions sheet l (script words sheets (length out)) o);
           all-is = a;

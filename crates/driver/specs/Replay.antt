@@ -48,13 +48,13 @@ playedFrom w j (e ∷ es) = playedFrom (playedOne w j e) (suc j) es
 
 -- ---- demand 3
 
--- after an accepted opening: the statement of demand 3, of the columns as lent and the ledger as last handed back; and all that was lent or
--- handed back, by the definitions
+-- after an accepted opening: the statement of demand 3, of the columns as lent, the ledger and the outlets as last handed back; and all that was
+-- lent or handed back, by the definitions
 pub record Replays (sheet words sheets : List ℕ) (l : Reach) (out answers : List ℕ) (s' : Reach) (out' answers' : List ℕ) : Type 0 where
-  pub holds : Holds (run (start sheet) (script words sheets (length out))) s'
+  pub holds : Holds (run (start sheet (l .held .outlets)) (script words sheets (length out))) s'
   pub all-is : world s' out' answers' ≡ playedFrom (world (opening sheet l .reach) out answers) 0 (script words sheets (length out))
 
--- the number of the first opening; after a refused one all that was lent stands as it came, and X, boundaries and ledger are those of its answer
+-- the number of the first opening; after a refused one all that was lent stands as it came, and X, boundaries, ledger and outlets are those of its answer
 pub record ReplayCameTo (sheet words sheets : List ℕ) (l : Reach) (out answers : List ℕ) (r : Replayed) (bed : List ℤ) (depth : List ℕ) (discharge : List ℤ) (mass base : List ℕ) (carried : List ℤ) (out' answers' : List ℕ) : Type 0 where
   pub refusal-is : r .refusal ≡ opening sheet l .refusal
   pub plays : opening sheet l .refusal ≡ 0 → Replays sheet words sheets l out answers (reachOf bed depth discharge mass base carried (r .«cell_length») (r .held)) out' answers'

@@ -6,11 +6,12 @@ ghost use Rattle.reach.specs.Reach.{reachOf, came};
 ghost use Rattle.sheet.specs.Opening.{noneHeld};
 ghost use Rattle.script.specs.Script.{script};
 ghost use Rattle.driver.specs.Replay.{flag, noted, world, playedFrom, ReplayCameTo};
+use outlet::Outlets;
 use player::call::play_call;
 use reach::held::Held;
 use sheet::opening::open_sheet;
 
-// 0, or the number of the ground that refused the first opening; X, boundaries and ledger as the last call left them
+// 0, or the number of the ground that refused the first opening; X, boundaries, ledger and outlets as the last call left them
 #[repr(C)]
 pub struct Replayed {
     pub refusal: u32,
@@ -48,7 +49,7 @@ fn note(answers: &mut [u64], j: usize, refusal: u32, transported: bool, time: u6
     put(answers, at + 3, place as u64);
 }
 
-// Plays the calls of the words, thirteen a call, from any record on.
+// Plays the calls of the words, 206 a call, from any record on.
 pub fn resume(
     words: &[u64],
     sheets: &[u8],
@@ -66,7 +67,7 @@ pub fn resume(
     ensures { λ r. ⌜ world (reachOf (now (bed .exit)) (now (depth .exit)) (now (discharge .exit)) (now (mass .exit)) (now (base .exit)) (now (carried .exit)) (r .«cell_length») (r .held)) (now (out .exit)) (now (answers .exit)) ≡ playedFrom (world (came bed depth discharge mass base carried x held) (now (out .entry)) (now (answers .entry))) 0 (script (now (words .entry)) (now (sheets .entry)) (length (now (out .entry)))) ⌝ }
     ensures { λ r. ⌜ r .refusal ≡ 0 ⌝ }
 {
-    let n = words.len() / 13;
+    let n = words.len() / 206;
     let mut cell_length = x;
     let mut current = held;
     let mut j = 0;
@@ -74,7 +75,7 @@ pub fn resume(
         let before = current;
         let p = play_call(
             words,
-            13 * j,
+            206 * j,
             sheets,
             bed,
             depth,
@@ -99,7 +100,7 @@ pub fn resume(
     }
 }
 
-// Opens the sheet and plays the calls of the words: demand 3.
+// Opens the sheet with the outlets lent to it, and plays the calls of the words: demand 3.
 pub fn replay(
     sheet: &[u8],
     words: &[u64],
@@ -110,12 +111,13 @@ pub fn replay(
     mass: &mut [u64],
     base: &mut [u64],
     carried: &mut [i64],
+    outlets: Outlets,
     out: &mut [u8],
     answers: &mut [u64],
 ) -> Replayed
-    ensures { λ r. ⌜ ReplayCameTo (now (sheet .entry)) (now (words .entry)) (now (sheets .entry)) (came bed depth discharge mass base carried 0 noneHeld) (now (out .entry)) (now (answers .entry)) r (now (bed .exit)) (now (depth .exit)) (now (discharge .exit)) (now (mass .exit)) (now (base .exit)) (now (carried .exit)) (now (out .exit)) (now (answers .exit)) ⌝ }
+    ensures { λ r. ⌜ ReplayCameTo (now (sheet .entry)) (now (words .entry)) (now (sheets .entry)) (came bed depth discharge mass base carried 0 (noneHeld outlets)) (now (out .entry)) (now (answers .entry)) r (now (bed .exit)) (now (depth .exit)) (now (discharge .exit)) (now (mass .exit)) (now (base .exit)) (now (carried .exit)) (now (out .exit)) (now (answers .exit)) ⌝ }
 {
-    let o = open_sheet(sheet, bed, depth, discharge, mass, base, carried);
+    let o = open_sheet(sheet, bed, depth, discharge, mass, base, carried, outlets);
     let held = o.held;
     if o.refusal != 0 {
         return Replayed {

@@ -5,6 +5,7 @@ use mathlib.Core.List.{List, [], _∷_}
 use Prim.Native.Nat.{ℕ}
 use lib.IntN.{pos}
 use Rattle.reach.specs.Reach.{Reach, noBoundary, heldWith}
+use Rattle.outlet.specs.Outlets.{noOutlets}
 use Rattle.reach.specs.Outcome.{Outcome}
 use Rattle.reach.specs.declared.ledger.Totals.{Totals}
 use Rattle.reach.specs.declared.held.Held.{Held}
@@ -16,7 +17,7 @@ noTotals = record { «water_in» = 0; «water_out» = 0; «mass_in» = 0; «mass
 
 -- a pair of walls, and an empty ledger
 abbrev pub twoWalls : Held
-twoWalls = heldWith (noBoundary ∷ noBoundary ∷ []) (record { left = noTotals; right = noTotals })
+twoWalls = heldWith (noBoundary ∷ noBoundary ∷ []) (record { left = noTotals; right = noTotals }) noOutlets
 
 abbrev pub twoCells : Reach
 twoCells = record {

@@ -24,6 +24,7 @@ use flux::wave::wave_speed;
 use numbers::signed::joined;
 use numbers::signed::left_part;
 use numbers::signed::right_part;
+use outlet::Outlets;
 use program::program;
 
 #[no_mangle]
@@ -84,10 +85,11 @@ pub extern "C" fn harness_replay(
     mass: &mut [u64],
     base: &mut [u64],
     carried: &mut [i64],
+    outlets: Outlets,
     out: &mut [u8],
     answers: &mut [u64],
 ) -> Replayed
-    ensures { λ r. ⌜ ReplayCameTo (now (sheet .entry)) (now (words .entry)) (now (sheets .entry)) (came bed depth discharge mass base carried 0 noneHeld) (now (out .entry)) (now (answers .entry)) r (now (bed .exit)) (now (depth .exit)) (now (discharge .exit)) (now (mass .exit)) (now (base .exit)) (now (carried .exit)) (now (out .exit)) (now (answers .exit)) ⌝ }
+    ensures { λ r. ⌜ ReplayCameTo (now (sheet .entry)) (now (words .entry)) (now (sheets .entry)) (came bed depth discharge mass base carried 0 (noneHeld outlets)) (now (out .entry)) (now (answers .entry)) r (now (bed .exit)) (now (depth .exit)) (now (discharge .exit)) (now (mass .exit)) (now (base .exit)) (now (carried .exit)) (now (out .exit)) (now (answers .exit)) ⌝ }
 {
     replay(
         sheet,
@@ -99,6 +101,7 @@ pub extern "C" fn harness_replay(
         mass,
         base,
         carried,
+        outlets,
         out,
         answers,
     )

@@ -1,2 +1,4 @@
 pub mod Functions
+pub mod Returns
 pub mod Says
+pub mod lent

@@ -1,27 +1,34 @@
-// The six calls as C functions, the interface of include/jemmyfern.h. Each states the contract of the call that it passes on, and requires nothing.
+// The six calls as C functions, the interface of include/jemmyfern.h. Each loads the lent outlets, passes the call on, and writes the outlets back; it states
+// the contract of the call that it passes on, and requires nothing.
+pub mod answer;
+
 ghost use mathlib.Core.Path.{_≡_};
-ghost use Rattle.reach.specs.Reach.{came, heldWith};
+ghost use Rattle.outlet.specs.Outlets.{loaded};
+ghost use Rattle.reach.specs.Reach.{came};
 ghost use Rattle.transport.specs.Calls.{setBoundaries, transport as transportOf, CameTo};
 ghost use Rattle.timestep.specs.GreatestStep.{greatest};
 ghost use Rattle.stepping.specs.StepCall.{StepCameTo};
 ghost use Rattle.sheet.specs.Opening.{noneHeld, opening, OpenCameTo};
 ghost use Rattle.writing.specs.Writing.{WriteCameTo};
-use reach::boundary::Boundary;
-use reach::held::Held;
+ghost use Rattle.jemmyfern_c.specs.Answers.{givenHeld, RestKept, openWith, stepWith, transportWith, greatestWith, writeWith};
+use answer::Answer;
+use answer::Boundaries;
+use answer::Greatest;
+use answer::Opened;
+use answer::Stepped;
+use answer::given_held;
+use answer::greatest_answer;
+use answer::opening_answer;
+use answer::room_of;
+use answer::step_answer;
+use answer::transport_answer;
+use answer::write_answer;
+use outlet::Outlet;
+use outlet::load;
+use outlet::store;
 use reach::ledger::Ledger;
-use sheet::opening::OpenAnswer;
 use sheet::opening::open_sheet;
-use stepping::step::StepAnswer;
-use timestep::GreatestAnswer;
-use transport::TransportAnswer;
-use writing::write::WriteAnswer;
 use writing::write::write_sheet;
-
-// Both boundaries, left and right, as C passes them
-#[repr(C)]
-pub struct Boundaries {
-    pub boundaries: [Boundary; 2],
-}
 
 #[no_mangle]
 pub extern "C" fn jemmyfern_open(
@@ -32,10 +39,15 @@ pub extern "C" fn jemmyfern_open(
     mass: &mut [u64],
     base: &mut [u64],
     carried: &mut [i64],
-) -> OpenAnswer
-    ensures { λ r. ⌜ OpenCameTo (opening (now (s .entry)) (came bed depth discharge mass base carried 0 noneHeld)) r (now (bed .exit)) (now (depth .exit)) (now (discharge .exit)) (now (mass .exit)) (now (base .exit)) (now (carried .exit)) ⌝ }
+    outlets: &mut [Outlet],
+) -> Opened
+    ensures { λ r. ⌜ OpenCameTo (opening (now (s .entry)) (came bed depth discharge mass base carried 0 (noneHeld (loaded (now (outlets .entry)))))) (openWith r (now (outlets .exit))) (now (bed .exit)) (now (depth .exit)) (now (discharge .exit)) (now (mass .exit)) (now (base .exit)) (now (carried .exit)) × RestKept (now (outlets .entry)) (now (outlets .exit)) ⌝ }
 {
-    open_sheet(s, bed, depth, discharge, mass, base, carried)
+    let list = load(outlets);
+    let a = open_sheet(s, bed, depth, discharge, mass, base, carried, list);
+    let room = room_of(a.held);
+    store(outlets, room);
+    opening_answer(a)
 }
 
 #[no_mangle]
@@ -46,19 +58,20 @@ pub extern "C" fn jemmyfern_step(
     mass: &mut [u64],
     base: &mut [u64],
     carried: &mut [i64],
+    outlets: &mut [Outlet],
     x: u64,
     boundaries: Boundaries,
     ledger: Ledger,
     t: u64,
-) -> StepAnswer
-    ensures { λ r. ⌜ StepCameTo (came bed depth discharge mass base carried x (heldWith (boundaries .boundaries) ledger)) t r (now (depth .exit)) (now (discharge .exit)) (now (mass .exit)) (now (base .exit)) (now (carried .exit)) ⌝ }
+) -> Stepped
+    ensures { λ r. ⌜ StepCameTo (came bed depth discharge mass base carried x (givenHeld (boundaries .boundaries) ledger (now (outlets .entry)))) t (stepWith r (now (outlets .exit))) (now (depth .exit)) (now (discharge .exit)) (now (mass .exit)) (now (base .exit)) (now (carried .exit)) × RestKept (now (outlets .entry)) (now (outlets .exit)) ⌝ }
 {
-    let pair = boundaries.boundaries;
-    let held = Held {
-        boundaries: pair,
-        ledger,
-    };
-    stepping::step::step(bed, depth, discharge, mass, base, carried, x, held, t)
+    let list = load(outlets);
+    let held = given_held(boundaries, ledger, list);
+    let a = stepping::step::step(bed, depth, discharge, mass, base, carried, x, held, t);
+    let room = room_of(a.held);
+    store(outlets, room);
+    step_answer(a)
 }
 
 #[no_mangle]
@@ -69,18 +82,19 @@ pub extern "C" fn jemmyfern_transport(
     mass: &mut [u64],
     base: &mut [u64],
     carried: &mut [i64],
+    outlets: &mut [Outlet],
     x: u64,
     boundaries: Boundaries,
     ledger: Ledger,
-) -> TransportAnswer
-    ensures { λ r. ⌜ CameTo (transportOf (came bed depth discharge mass base carried x (heldWith (boundaries .boundaries) ledger))) r (now (mass .exit)) (now (base .exit)) (now (carried .exit)) ⌝ }
+) -> Answer
+    ensures { λ r. ⌜ CameTo (transportOf (came bed depth discharge mass base carried x (givenHeld (boundaries .boundaries) ledger (now (outlets .entry))))) (transportWith r (now (outlets .exit))) (now (mass .exit)) (now (base .exit)) (now (carried .exit)) × RestKept (now (outlets .entry)) (now (outlets .exit)) ⌝ }
 {
-    let pair = boundaries.boundaries;
-    let held = Held {
-        boundaries: pair,
-        ledger,
-    };
-    transport::transport(bed, depth, discharge, mass, base, carried, x, held)
+    let list = load(outlets);
+    let held = given_held(boundaries, ledger, list);
+    let a = transport::transport(bed, depth, discharge, mass, base, carried, x, held);
+    let room = room_of(a.held);
+    store(outlets, room);
+    transport_answer(a)
 }
 
 #[no_mangle]
@@ -91,20 +105,21 @@ pub extern "C" fn jemmyfern_set_boundaries(
     mass: &mut [u64],
     base: &mut [u64],
     carried: &mut [i64],
+    outlets: &mut [Outlet],
     x: u64,
     boundaries: Boundaries,
     ledger: Ledger,
     new: Boundaries,
-) -> TransportAnswer
-    ensures { λ r. ⌜ CameTo (setBoundaries (came bed depth discharge mass base carried x (heldWith (boundaries .boundaries) ledger)) (new .boundaries)) r (now (mass .exit)) (now (base .exit)) (now (carried .exit)) ⌝ }
+) -> Answer
+    ensures { λ r. ⌜ CameTo (setBoundaries (came bed depth discharge mass base carried x (givenHeld (boundaries .boundaries) ledger (now (outlets .entry)))) (new .boundaries)) (transportWith r (now (outlets .exit))) (now (mass .exit)) (now (base .exit)) (now (carried .exit)) × RestKept (now (outlets .entry)) (now (outlets .exit)) ⌝ }
 {
-    let pair = boundaries.boundaries;
+    let list = load(outlets);
+    let held = given_held(boundaries, ledger, list);
     let given = new.boundaries;
-    let held = Held {
-        boundaries: pair,
-        ledger,
-    };
-    transport::set_boundaries(bed, depth, discharge, mass, base, carried, x, held, given)
+    let a = transport::set_boundaries(bed, depth, discharge, mass, base, carried, x, held, given);
+    let room = room_of(a.held);
+    store(outlets, room);
+    transport_answer(a)
 }
 
 #[no_mangle]
@@ -115,18 +130,17 @@ pub extern "C" fn jemmyfern_greatest_step(
     mass: &[u64],
     base: &[u64],
     carried: &[i64],
+    outlets: &[Outlet],
     x: u64,
     boundaries: Boundaries,
     ledger: Ledger,
-) -> GreatestAnswer
-    ensures { λ r. ⌜ r ≡ greatest (came bed depth discharge mass base carried x (heldWith (boundaries .boundaries) ledger)) ⌝ }
+) -> Greatest
+    ensures { λ r. ⌜ greatestWith r (now (outlets .entry)) ≡ greatest (came bed depth discharge mass base carried x (givenHeld (boundaries .boundaries) ledger (now (outlets .entry)))) ⌝ }
 {
-    let pair = boundaries.boundaries;
-    let held = Held {
-        boundaries: pair,
-        ledger,
-    };
-    timestep::greatest_step(bed, depth, discharge, mass, base, carried, x, held)
+    let list = load(outlets);
+    let held = given_held(boundaries, ledger, list);
+    let a = timestep::greatest_step(bed, depth, discharge, mass, base, carried, x, held);
+    greatest_answer(a)
 }
 
 #[no_mangle]
@@ -137,17 +151,16 @@ pub extern "C" fn jemmyfern_write(
     mass: &[u64],
     base: &[u64],
     carried: &[i64],
+    outlets: &[Outlet],
     x: u64,
     boundaries: Boundaries,
     ledger: Ledger,
     out: &mut [u8],
-) -> WriteAnswer
-    ensures { λ r. ⌜ WriteCameTo (came bed depth discharge mass base carried x (heldWith (boundaries .boundaries) ledger)) (now (out .entry)) r (now (out .exit)) ⌝ }
+) -> Answer
+    ensures { λ r. ⌜ WriteCameTo (came bed depth discharge mass base carried x (givenHeld (boundaries .boundaries) ledger (now (outlets .entry)))) (now (out .entry)) (writeWith r (now (outlets .entry))) (now (out .exit)) ⌝ }
 {
-    let pair = boundaries.boundaries;
-    let held = Held {
-        boundaries: pair,
-        ledger,
-    };
-    write_sheet(bed, depth, discharge, mass, base, carried, x, held, out)
+    let list = load(outlets);
+    let held = given_held(boundaries, ledger, list);
+    let a = write_sheet(bed, depth, discharge, mass, base, carried, x, held, out);
+    write_answer(a)
 }

@@ -1,22 +1,28 @@
 -- Laws of a transport: nothing is lost, bounds by place are kept, and every amount is small. They rest on the laws of shares for any number of
--- parts; only `both-shares` and what reads a single share know that there are two. Assumes nothing.
+-- parts; only `three-shares` and what reads a single share know which they are. Assumes nothing.
 use mathlib.Core.Path.{_≡_, refl, sym, ap, _∙_}
+use mathlib.Core.Bool.{Bool, true, false, cond}
 use mathlib.Core.Logic.{⊎-elim}
 use mathlib.Core.List.{List, [], _∷_}
 use Prim.Native.Nat.{ℕ, zero, suc, _+_, _-_, _*_, _/_, _≤_, _<_}
-use native.Mathlib.Nat.{add-zero, eq-or-lt-of-le, add-sub-of-le}
+use native.Mathlib.Nat.{zero-add, eq-or-lt-of-le, add-sub-of-le}
 use native.Mathlib.Numerals.{add-one}
 use native.Mathlib.Omega.{arith}
 use borrow.Author.Tests.{lt-ltb, le-ltb}
+use lib.Dec.{eqb}
 use lib.IntN.{ℤ, pos, negℤ}
 use lib.ListN.{length, getD}
-use Rattle.numbers.specs.Index.{sum}
+use Rattle.numbers.specs.Index.{sum, sumBelow, tabulate}
 use Rattle.numbers.specs.Shares.{share, shares, rest}
 use Rattle.numbers.specs.Signed.{positive}
-use Rattle.numbers.proofs.IndexLaws.{telescope, sum-tabulate, sum-by-index}
-use Rattle.numbers.proofs.SharesLaws.{shares-floor, shares-rest, shares-lo, shares-hi, rest-lo, rest-hi, rest-of-all}
-use Rattle.reach.specs.Parts.{parts, outflow}
-use Rattle.mass.specs.Transport.{MassColumns, massColumns, cellParts, cellOutflow, cellShares, rightShare, leftShare, rightwards, leftwards, movedCell}
+use Rattle.numbers.proofs.IndexLaws.{telescope, sum-add, sum-tabulate, sum-by-index, sum-same, sum-part, tabulate-same, length-tabulate}
+use Rattle.numbers.proofs.SharesLaws.{floor-none, share-nothing, shares-at, length-shares, shares-rest, shares-lo, shares-hi, rest-lo, rest-hi, rest-of-all}
+use Rattle.outlet.specs.Outlets.{outletAt, fromCell}
+use Rattle.outlet.specs.declared.Outlets.{Outlets}
+use Rattle.drawing.proofs.DrawingLaws.{all-cells}
+use Rattle.reach.specs.Parts.{parts, outflow, drawnFrom}
+use Rattle.reach.proofs.PartsLaws.{outflow-is}
+use Rattle.mass.specs.Transport.{MassColumns, massColumns, cellParts, cellOutflow, cellShares, rightShare, leftShare, outletShare, rightwards, leftwards, movedCell}
 use Rattle.mass.specs.Ranges.{ReadyAt, Ready, massMost, movedMass}
 
 -- the water that crossed interface i rightwards, and leftwards
@@ -47,21 +53,39 @@ module _ (s : MassColumns) where
   abbrev L : ℕ → ℕ
   L i = waterLeftwards s i
 
-  -- the shares of a cell are these two
-  pub both-shares : (i : ℕ) → sum (cellShares s i) ≡ rightShare s i + leftShare s i
-  unfolding cellShares parts shares sum
-  both-shares i = omega arith
+  -- what its outlets have of cell i, after right and left
+  abbrev outletShares : ℕ → List ℕ
+  outletShares i = shares (M i) (B i) (R i + L i) (s .drawn i)
 
-  -- the paper's own words for them
+  -- the mass that left cell i by its outlets
+  unfoldable pub drawnMass : ℕ → ℕ
+  drawnMass i = sum (outletShares i)
+
+  by-outlets : (i : ℕ) → cellShares s i ≡ rightShare s i ∷ leftShare s i ∷ outletShares i
+  unfolding cellShares parts shares
+  by-outlets i = ap (λ (P : ℕ). rightShare s i ∷ leftShare s i ∷ shares (M i) (B i) P (s .drawn i)) (ap (λ (x : ℕ). x + L i) (zero-add (R i)))
+
+  pub outlet-share-is : (i k : ℕ) → outletShare s i k ≡ getD (outletShares i) k 0
+  outlet-share-is i k = ap (λ (l : List ℕ). getD l (suc (suc k)) 0) (by-outlets i)
+
+  -- where one part stands for all outlets
+  pub drawn-alone : (i : ℕ) {d : ℕ} → s .drawn i ≡ d ∷ [] → outletShare s i 0 ≡ drawnMass i
+  unfolding drawnMass shares sum
+  drawn-alone i {d} e = outlet-share-is i 0 ∙ rw e (omega arith)
+
+  -- the shares of a cell are these
+  three-shares : (i : ℕ) → sum (cellShares s i) ≡ rightShare s i + leftShare s i + drawnMass i
+  unfolding sum drawnMass
+  three-shares i = ap sum (by-outlets i) ∙ omega arith
+
+  -- the paper's own words for the first two
   pub right-share-floor : (i : ℕ) → rightShare s i ≡ M i * R i / B i
-  unfolding cellShares parts shares sum
-  right-share-floor i =
-      omega (arith, shares-floor (M i) (B i) (R i ∷ []) ∙ ap (λ (p : ℕ). M i * p / B i) (add-zero (R i)))
+  unfolding cellShares parts shares share
+  right-share-floor i = rw zero-add (omega (arith, floor-none (M i) (B i)))
 
   pub left-share-floor : (i : ℕ) → leftShare s i ≡ M i * (R i + L i) / B i - rightShare s i
-  unfolding cellShares parts sum
-  left-share-floor i =
-      omega (arith, both-shares i, shares-floor (M i) (B i) (R i ∷ L i ∷ []) ∙ ap (λ (p : ℕ). M i * (R i + p) / B i) (add-zero (L i)))
+  unfolding cellShares parts shares share
+  left-share-floor i = rw zero-add (omega (arith, floor-none (M i) (B i)))
 
   pub rightwards-next : (i : ℕ) → rightwards s (i + 1) ≡ rightShare s i
   unfolding rightwards
@@ -82,12 +106,12 @@ module _ (s : MassColumns) where
     unfolding cellShares outflow
     whole = shares-rest (M i) (B i) (cellParts s i) covered
 
-    pub shares-fit : rightShare s i + leftShare s i ≤ M i
-    shares-fit = omega (arith, whole, both-shares i)
+    pub shares-fit : rightShare s i + leftShare s i + drawnMass i ≤ M i
+    shares-fit = omega (arith, whole, three-shares i)
 
-    pub moved-is : movedCell s i + (rightShare s i + leftShare s i) ≡ M i + rightwards s i + leftwards s (i + 1)
+    pub moved-is : movedCell s i + (rightShare s i + leftShare s i + drawnMass i) ≡ M i + rightwards s i + leftwards s (i + 1)
     unfolding movedCell
-    moved-is = omega (arith, whole, both-shares i)
+    moved-is = omega (arith, whole, three-shares i)
 
   -- a cell that gave all its water keeps nothing of its mass
   pub moved-all : (hi i : ℕ) → M i ≤ hi * B i → cellOutflow s i ≡ B i → movedCell s i ≡ rightwards s i + leftwards s (i + 1)
@@ -96,20 +120,21 @@ module _ (s : MassColumns) where
 
   -- ---- where each cell gave no more water than its base
   module _ (covered : (i : ℕ) → i < n → cellOutflow s i ≤ B i) where
-    cell-balance : (i : ℕ) → i < n → movedCell s i + rightwards s (suc i) + leftwards s i ≡ M i + rightwards s i + leftwards s (suc i)
+    cell-balance : (i : ℕ) → i < n → (movedCell s i + drawnMass i) + rightwards s (suc i) + leftwards s i ≡ M i + rightwards s i + leftwards s (suc i)
     cell-balance i l =
         let r : rightwards s (suc i) ≡ rightShare s i = rw (← add-one i) (rightwards-next i) in
         let e : leftwards s (i + 1) ≡ leftwards s (suc i) = ap (leftwards s) (add-one i) in
         omega (arith, moved-is i (covered i l), leftwards-cell i l)
 
     -- mass held after, and what went out, is mass held before and what came in
-    pub conserved : sum (movedMass s) + rightwards s n + leftwards s 0 ≡ sum (s .mass) + rightwards s 0 + leftwards s n
+    pub conserved : sum (movedMass s) + sumBelow n drawnMass + rightwards s n + leftwards s 0 ≡ sum (s .mass) + rightwards s 0 + leftwards s n
     conserved =
         omega (
           arith,
           sum-tabulate n (movedCell s),
           sum-by-index (s .mass),
-          telescope n (movedCell s) M (rightwards s) (leftwards s) cell-balance,
+          sum-add n (movedCell s) drawnMass,
+          telescope n (λ i. movedCell s i + drawnMass i) M (rightwards s) (leftwards s) cell-balance,
         )
 
     -- bounds by place, 0 the left boundary, 1..n the cells, n + 1 the right boundary: water keeps the bounds of the place that it comes from
@@ -203,8 +228,8 @@ rightwards-small s r (suc i) l = omega (arith, shares-fit s i (r .each i .giving
 
 -- ---- What is read of a cell depends on the mass there alone, so a column that is written in place up to i serves at i and above;
 -- and nothing of it depends on what enters over the left boundary.
-module _ (m m₀ b : List ℕ) (c : List ℤ) (x x₀ y : ℕ) (long : length m ≡ length m₀) where
-  pub ready-same : (j : ℕ) → getD m j 0 ≡ getD m₀ j 0 → ReadyAt (massColumns m₀ b c x₀ y) j → ReadyAt (massColumns m b c x y) j
+module _ (m m₀ b : List ℕ) (c : List ℤ) (d : ℕ → List ℕ) (x x₀ y : ℕ) (long : length m ≡ length m₀) where
+  pub ready-same : (j : ℕ) → getD m j 0 ≡ getD m₀ j 0 → ReadyAt (massColumns m₀ b c d x₀ y) j → ReadyAt (massColumns m b c d x y) j
   ready-same j e r = record {
     bases = r .bases ∙ sym long;
     interfaces = r .interfaces ∙ ap (λ (k : ℕ). k + 1) (sym long);
@@ -212,10 +237,91 @@ module _ (m m₀ b : List ℕ) (c : List ℤ) (x x₀ y : ℕ) (long : length m 
     entering = r .entering;
   }
 
-  pub right-share-same : (j : ℕ) → getD m j 0 ≡ getD m₀ j 0 → rightShare (massColumns m b c x y) j ≡ rightShare (massColumns m₀ b c x₀ y) j
+  pub shares-same : (j : ℕ) → getD m j 0 ≡ getD m₀ j 0 → cellShares (massColumns m b c d x y) j ≡ cellShares (massColumns m₀ b c d x₀ y) j
   unfolding cellShares
-  right-share-same j e = rw e refl
+  shares-same j e = rw e refl
 
-  pub leftwards-same : (j : ℕ) → getD m j 0 ≡ getD m₀ j 0 → leftwards (massColumns m b c x y) j ≡ leftwards (massColumns m₀ b c x₀ y) j
+  pub leftwards-same : (j : ℕ) → getD m j 0 ≡ getD m₀ j 0 → leftwards (massColumns m b c d x y) j ≡ leftwards (massColumns m₀ b c d x₀ y) j
   unfolding leftwards cellShares
   leftwards-same j e = rw (e, long) refl
+
+-- ---- What the outlets of a cell have drawn counts as one part for all that is not an outlet's own share.
+module _ (m b : List ℕ) (c : List ℤ) (d e : ℕ → List ℕ) (x y : ℕ) (same : (i : ℕ) → i < length m → sum (d i) ≡ sum (e i)) where
+  outflow-same : (l r : ℤ) (i : ℕ) → i < length m → outflow l r (d i) ≡ outflow l r (e i)
+  outflow-same l r i k = omega (arith, outflow-is l r (d i), outflow-is l r (e i), same i k)
+
+  pub ready-alone : ((i : ℕ) → ReadyAt (massColumns m b c d x y) i) → (i : ℕ) → ReadyAt (massColumns m b c e x y) i
+  ready-alone r i = record {
+    bases = r i .bases;
+    interfaces = r i .interfaces;
+    giving = λ l. let g = r i .giving l in record { deep = g .deep; rich = g .rich; covered = rw (← outflow-same (getD c i (pos 0)) (getD c (i + 1) (pos 0)) i l) (g .covered) };
+    entering = r i .entering;
+  }
+
+  pub rightwards-alone : (i : ℕ) → rightwards (massColumns m b c d x y) i ≡ rightwards (massColumns m b c e x y) i
+  unfolding rightwards cellShares parts shares
+  rightwards-alone zero = refl
+  rightwards-alone (suc i) = refl
+
+  pub leftwards-alone : (i : ℕ) → leftwards (massColumns m b c d x y) i ≡ leftwards (massColumns m b c e x y) i
+  unfolding leftwards cellShares parts shares
+  leftwards-alone i = refl
+
+  pub moved-alone : movedMass (massColumns m b c d x y) ≡ movedMass (massColumns m b c e x y)
+  unfolding movedCell
+  moved-alone =
+      tabulate-same (length m) _ _
+      (λ i l. rw (outflow-same (getD c i (pos 0)) (getD c (i + 1) (pos 0)) i l, rightwards-alone i, leftwards-alone (i + 1)) refl)
+
+-- ---- outlets: each share by itself, and all of them
+
+module _ (m b : List ℕ) (c : List ℤ) (os : Outlets) (x y : ℕ) where
+  abbrev of : MassColumns
+  of = massColumns m b c (drawnFrom os) x y
+
+  -- what outlet k has drawn of cell i
+  abbrev drawnOf : ℕ → ℕ → ℕ
+  drawnOf i k = cond (eqb (outletAt os k .cell) i) (outletAt os k .drawn) 0
+
+  -- an outlet's share comes after right, left and the outlets before it
+  pub outlet-share-at : (i k : ℕ) → k < os .count
+      → outletShare of i k ≡ share (getD m i 0) (getD b i 0) (waterRightwards of (i + 1) + waterLeftwards of i + sumBelow k (drawnOf i)) (drawnOf i k)
+  unfolding fromCell
+  outlet-share-at i k l = outlet-share-is of i k ∙ shares-at (getD m i 0) (getD b i 0) (waterRightwards of (i + 1) + waterLeftwards of i) (os .count) (drawnOf i) k l
+
+  -- one of another cell has nothing of this one
+  share-here : (i k : ℕ) → k < os .count → outletShare of i k ≡ cond (eqb (outletAt os k .cell) i) (outletShare of i k) 0
+  share-here i k l = go (eqb (outletAt os k .cell) i) refl
+    where
+      go : (t : Bool) → eqb (outletAt os k .cell) i ≡ t → outletShare of i k ≡ cond t (outletShare of i k) 0
+      go true e = refl
+      go false e = outlet-share-at i k l ∙ rw e (share-nothing (getD m i 0) (getD b i 0) _)
+
+  drawn-mass-is : (i : ℕ) → drawnMass of i ≡ sumBelow (os .count) (λ k. cond (eqb (outletAt os k .cell) i) (outletShare of i k) 0)
+  unfolding drawnMass fromCell
+  drawn-mass-is i =
+      sum-by-index (shares (getD m i 0) (getD b i 0) _ (tabulate (os .count) (drawnOf i)))
+      ∙ ap (λ (n : ℕ). sumBelow n (λ k. getD (shares (getD m i 0) (getD b i 0) (waterRightwards of (i + 1) + waterLeftwards of i) (tabulate (os .count) (drawnOf i))) k 0)) (length-shares (getD m i 0) (getD b i 0) _ _ ∙ length-tabulate (os .count) (drawnOf i))
+      ∙ sum-same (os .count) _ _ (λ k l. sym (outlet-share-is of i k) ∙ share-here i k l)
+
+  -- all that left by the outlets of the cells is what the outlets have
+  pub drawn-mass-sum : ((k : ℕ) → k < os .count → outletAt os k .cell < length m) → sumBelow (length m) (drawnMass of) ≡ sumBelow (os .count) (λ k. outletShare of (outletAt os k .cell) k)
+  drawn-mass-sum inside =
+      sum-same (length m) _ _ (λ i l. drawn-mass-is i)
+      ∙ all-cells os (λ k i. outletShare of i k) (length m) inside
+
+  -- up to outlet k no more is drawn of a cell than all of it
+  pub drawn-before : (i k : ℕ) → k < os .count → sumBelow k (drawnOf i) + drawnOf i k ≤ sum (drawnFrom os i)
+  unfolding fromCell
+  drawn-before i k l = rw (sum-tabulate (os .count) (drawnOf i)) (sum-part (os .count) (drawnOf i) k l)
+
+-- and it is small
+pub outlet-share-small : (m b : List ℕ) (c : List ℤ) (os : Outlets) (i k : ℕ) → i < length m → ReadyAt (massColumns m b c (drawnFrom os) 0 0) i → k < os .count
+    → outletShare (massColumns m b c (drawnFrom os) 0 0) i k ≤ massMost
+unfolding drawnMass fromCell
+outlet-share-small m b c os i k l r q =
+    let s = massColumns m b c (drawnFrom os) 0 0 in
+    let all = shares (getD m i 0) (getD b i 0) (waterRightwards s (i + 1) + waterLeftwards s i) (drawnFrom os i) in
+    let long : length all ≡ os .count = length-shares (getD m i 0) (getD b i 0) _ _ ∙ length-tabulate (os .count) _ in
+    let one = sum-part (length all) (λ j. getD all j 0) k (omega (arith, long, q)) in
+    omega (arith, outlet-share-is s i k, one, sum-by-index all, shares-fit s i (r .giving l .covered), mass-small s i r l)

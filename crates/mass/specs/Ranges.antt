@@ -2,10 +2,15 @@
 use mathlib.Core.Path.{_≡_}
 use mathlib.Core.List.{List}
 use Prim.Native.Nat.{ℕ, _+_, _*_, _≤_, _<_}
+use lib.IntN.{ℤ}
 use lib.ListN.{length, getD}
 use Rattle.numbers.specs.Index.{tabulate}
 use Rattle.flux.specs.Limits.{depthMost, concentrationMost}
-use Rattle.mass.specs.Transport.{MassColumns, cellOutflow, movedCell}
+use Rattle.outlet.specs.Outlets.{outletsMost, outletAt}
+use Rattle.outlet.specs.declared.Outlets.{Outlets}
+use Rattle.reach.specs.Limits.{cellsMost, totalMost}
+use Rattle.reach.specs.Parts.{drawnFrom}
+use Rattle.mass.specs.Transport.{MassColumns, massColumns, cellOutflow, movedCell}
 
 -- the mass of a full cell at the highest concentration
 abbrev pub massMost : ℕ
@@ -31,3 +36,11 @@ pub record Ready (s : MassColumns) : Type 0 where
 -- the column of masses that a transport leaves
 abbrev pub movedMass : MassColumns → List ℕ
 movedMass s = tabulate (length (s .mass)) (movedCell s)
+
+-- outlets in the cells of these columns, whose drawn water they are, with totals that have room
+pub record OutletsReady (m b : List ℕ) (c : List ℤ) (os : Outlets) : Type 0 where
+  pub few : os .count ≤ outletsMost
+  pub cells : length m ≤ cellsMost
+  pub inside : (k : ℕ) → k < os .count → outletAt os k .cell < length m
+  pub totals : (k : ℕ) → k < os .count → outletAt os k .mass ≤ totalMost
+  pub each : (i : ℕ) → ReadyAt (massColumns m b c (drawnFrom os) 0 0) i

@@ -1,3 +1,4 @@
+pub mod DealLaws
 pub mod IndexLaws
 pub mod RootLaws
 pub mod SearchLaws

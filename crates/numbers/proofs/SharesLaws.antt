@@ -1,12 +1,13 @@
 -- Laws of running floors, once for any number of parts: every share keeps the bounds of the whole, and nothing is lost. Assumes nothing.
-use mathlib.Core.Path.{_≡_, refl, ap, _∙_, subst}
+use mathlib.Core.Path.{_≡_, refl, sym, ap, _∙_, subst}
 use mathlib.Core.List.{List, [], _∷_}
 use Prim.Native.Nat.{ℕ, zero, suc, _+_, _-_, _*_, _/_, _≤_, _<_}
 use native.Mathlib.Nat.{div-zero, div-mul-le-self, le-div-iff-mul-le, div-lt-iff-lt-mul, lt-div-mul-add, div-le-of-le-mul, mul-le-mul-left, zero-lt-suc, mul-div-cancel, add-zero, zero-add, add-assoc, mul-zero, zero-div, not-suc-le-zero, le-of-suc-le-suc}
 use lib.ListN.{length, getD}
 use native.Mathlib.Omega.{arith}
-use Rattle.numbers.specs.Index.{sum}
+use Rattle.numbers.specs.Index.{sum, sumBelow, tabulate}
 use Rattle.numbers.specs.Shares.{share, shares, rest}
+use Rattle.numbers.proofs.IndexLaws.{sum-first}
 
 module _ (m : ℕ) where
   pub floor-none : (b : ℕ) → m * 0 / b ≡ 0
@@ -84,3 +85,22 @@ module _ (m : ℕ) where
   shares-hi hi b P [] l k i = absurd (not-suc-le-zero i)
   shares-hi hi b P (p ∷ ps) l zero i = share-hi hi b P p l
   shares-hi hi b P (p ∷ ps) l (suc k) i = shares-hi hi b (P + p) ps l k (le-of-suc-le-suc i)
+
+  -- a part of nothing has nothing
+  pub share-nothing : (b P : ℕ) → share m b P 0 ≡ 0
+  unfolding share
+  share-nothing b P = rw (add-zero P) (omega arith)
+
+  pub length-shares : (b P : ℕ) (ps : List ℕ) → length (shares m b P ps) ≡ length ps
+  unfolding shares
+  length-shares b P [] = refl
+  length-shares b P (p ∷ ps) = ap suc (length-shares b (P + p) ps)
+
+  -- the share of part k comes after the parts before it
+  pub shares-at : (b P n : ℕ) (f : ℕ → ℕ) (k : ℕ) → k < n → getD (shares m b P (tabulate n f)) k 0 ≡ share m b (P + sumBelow k f) (f k)
+  unfolding shares tabulate sumBelow
+  shares-at b P zero f k l = absurd (not-suc-le-zero l)
+  shares-at b P (suc n) f zero l = rw (add-zero P) refl
+  shares-at b P (suc n) f (suc k) l =
+      shares-at b (P + f 0) n (λ i. f (suc i)) k (le-of-suc-le-suc l)
+      ∙ ap (λ (x : ℕ). share m b x (f (suc k))) (add-assoc P (f 0) (sumBelow k (λ i. f (suc i))) ∙ ap (λ (x : ℕ). P + x) (sym (sum-first k f)))

@@ -1,4 +1,5 @@
 pub mod Index
+pub mod Deal
 pub mod Search
 pub mod Root
 pub mod Shares

@@ -2,9 +2,11 @@
 ghost use mathlib.Core.Path.{_≡_};
 ghost use Rattle.reach.specs.Reach.{came};
 ghost use Rattle.reach.specs.Grounds.{passOr};
+ghost use Rattle.outlet.specs.Outlets.{noOutlets};
 ghost use Rattle.sheet.specs.Opening.{noneHeld};
 ghost use Rattle.play.specs.Play.{steps, countFits, played};
 ghost use Rattle.play.specs.Ranges.{RanTo, PlayedTo};
+use outlet::no_outlets;
 use reach::held::Held;
 use reach::refusal::Check;
 use sheet::opening::open_sheet;
@@ -66,7 +68,7 @@ fn check_count(count: u64) -> Check
     Check::Pass
 }
 
-// Opens the sheet into the lent columns, steps count times, and transports.
+// Opens the sheet into the lent columns, with an empty list of outlets, steps count times, and transports.
 pub fn play(
     s: &[u8],
     bed: &mut [i64],
@@ -78,9 +80,10 @@ pub fn play(
     count: u64,
     t: u64,
 ) -> Ran
-    ensures { λ r. ⌜ PlayedTo (played (now (s .entry)) (came bed depth discharge mass base carried 0 noneHeld) count t) r (now (bed .exit)) (now (depth .exit)) (now (discharge .exit)) (now (mass .exit)) (now (base .exit)) (now (carried .exit)) ⌝ }
+    ensures { λ r. ⌜ PlayedTo (played (now (s .entry)) (came bed depth discharge mass base carried 0 (noneHeld noOutlets)) count t) r (now (bed .exit)) (now (depth .exit)) (now (discharge .exit)) (now (mass .exit)) (now (base .exit)) (now (carried .exit)) ⌝ }
 {
-    let o = open_sheet(s, bed, depth, discharge, mass, base, carried);
+    let none = no_outlets();
+    let o = open_sheet(s, bed, depth, discharge, mass, base, carried, none);
     let opened = o.held;
     if o.refusal != 0 {
         return came_to(o.refusal, opened);

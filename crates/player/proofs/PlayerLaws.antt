@@ -8,6 +8,8 @@ use borrow.Author.Tests.{eqb-true, eqb-false, ne-eqb}
 use lib.Dec.{eqb}
 use lib.IntN.{ℤ}
 use lib.ListN.{length, getD, take, drop, length-take}
+use Rattle.outlet.specs.Outlets.{loaded}
+use Rattle.outlet.specs.declared.Outlet.{Outlet}
 use Rattle.reach.specs.Reach.{Reach}
 use Rattle.reach.specs.declared.boundary.Boundary.{Boundary}
 use Rattle.transport.specs.Calls.{transport, setBoundaries, CameTo}
@@ -20,13 +22,13 @@ use Rattle.sheet.specs.Opening.{opening, lent, OpenCameTo}
 use Rattle.sheet.specs.declared.opening.OpenAnswer.{OpenAnswer}
 use Rattle.writing.specs.Writing.{WriteCameTo}
 use Rattle.writing.specs.declared.write.WriteAnswer.{WriteAnswer}
-use Rattle.tally.specs.Call.{Free, stepCall, transportCall, boundariesCall, greatestCall, writeCall, openCall}
+use Rattle.tally.specs.Call.{Free, stepCall, transportCall, boundariesCall, greatestCall, writeCall, openCall, withWants}
 use Rattle.tally.proofs.CallLaws.{step-next, transport-next, setting-next, greatest-next, write-next, open-next, open-number}
-use Rattle.script.specs.Script.{boundaryFrom, part, callAt}
+use Rattle.script.specs.Script.{boundaryFrom, part, outletsFrom, callAt}
 use Rattle.player.specs.Plays.{cameTo, Plays}
 use Rattle.player.specs.declared.Played.{Played}
 
-pub plays-step : (s : Reach) (f : Free) (t : ℕ) {r : StepAnswer} {h : List ℕ} {q : List ℤ} {m b : List ℕ} {c : List ℤ} → StepCameTo s t r h q m b c → (out : List ℕ)
+pub plays-step : (s : Reach) (f : Free) (t : ℕ) {r : StepAnswer} {h : List ℕ} {q : List ℤ} {m b : List ℕ} {c : List ℤ} → StepCameTo (withWants (f .wants) s) t r h q m b c → (out : List ℕ)
     → Plays s f (stepCall t) out
     (record { refusal = r .refusal; transported = r .transported; time = 0; place = 0; «cell_length» = s .cellLength; held = r .held })
     (s .bed) h q m b c out
@@ -39,7 +41,7 @@ plays-step s f t k out = record {
   output-is = refl;
 }
 
-pub plays-transport : (s : Reach) (f : Free) {r : TransportAnswer} {m b : List ℕ} {c : List ℤ} → CameTo (transport s) r m b c → (out : List ℕ)
+pub plays-transport : (s : Reach) (f : Free) {r : TransportAnswer} {m b : List ℕ} {c : List ℤ} → CameTo (transport (withWants (f .wants) s)) r m b c → (out : List ℕ)
     → Plays s f transportCall out (cameTo (r .refusal) (s .cellLength) (r .held)) (s .bed) (s .depth) (s .discharge) m b c out
 plays-transport s f k out = record {
   refusal-is = k .refusal-is;
@@ -50,7 +52,7 @@ plays-transport s f k out = record {
   output-is = refl;
 }
 
-pub plays-setting : (s : Reach) (f : Free) (es : List Boundary) {r : TransportAnswer} {m b : List ℕ} {c : List ℤ} → CameTo (setBoundaries s es) r m b c → (out : List ℕ)
+pub plays-setting : (s : Reach) (f : Free) (es : List Boundary) {r : TransportAnswer} {m b : List ℕ} {c : List ℤ} → CameTo (setBoundaries (withWants (f .wants) s) es) r m b c → (out : List ℕ)
     → Plays s f (boundariesCall es) out (cameTo (r .refusal) (s .cellLength) (r .held)) (s .bed) (s .depth) (s .discharge) m b c out
 plays-setting s f es k out = record {
   refusal-is = k .refusal-is;
@@ -61,7 +63,7 @@ plays-setting s f es k out = record {
   output-is = refl;
 }
 
-pub plays-greatest : (s : Reach) (f : Free) {r : GreatestAnswer} → r ≡ greatest s → (out : List ℕ)
+pub plays-greatest : (s : Reach) (f : Free) {r : GreatestAnswer} → r ≡ greatest (withWants (f .wants) s) → (out : List ℕ)
     → Plays s f greatestCall out
     (record { refusal = r .refusal; transported = false; time = r .time; place = r .place; «cell_length» = s .cellLength; held = r .held })
     (s .bed) (s .depth) (s .discharge) (s .mass) (s .base) (s .carried) out
@@ -78,7 +80,7 @@ pub taken-length : (room : ℕ) (out : List ℕ) → room ≤ length out → roo
 taken-length room out l = let e = length-take room out in omega (arith, e)
 
 -- a write is lent the first `room` bytes
-pub plays-write : (s : Reach) (f : Free) (room : ℕ) (out out' : List ℕ) {r : WriteAnswer} → length (take room out) ≡ room → WriteCameTo s (take room out) r out'
+pub plays-write : (s : Reach) (f : Free) (room : ℕ) (out out' : List ℕ) {r : WriteAnswer} → length (take room out) ≡ room → WriteCameTo (withWants (f .wants) s) (take room out) r out'
     → Plays s f (writeCall room) out (cameTo (r .refusal) (s .cellLength) (r .held)) (s .bed) (s .depth) (s .discharge) (s .mass) (s .base) (s .carried) (out' ++ drop room out)
 plays-write s f room out out' l k = record {
   refusal-is = rw l at (k .refusal-is);
@@ -90,32 +92,32 @@ plays-write s f room out out' l k = record {
 }
 
 -- after a refused opening the list goes on with what it had
-pub plays-opening : (s : Reach) (f : Free) (sheet : List ℕ) (p : Played) {r : OpenAnswer} {z : List ℤ} {h : List ℕ} {q : List ℤ} {m b : List ℕ} {c : List ℤ}
-    → OpenCameTo (opening sheet (lent (s .bed) (s .depth) (s .discharge) (s .mass) (s .base) (s .carried))) r z h q m b c
+pub plays-opening : (s : Reach) (f : Free) (sheet : List ℕ) (list : List Outlet) (p : Played) {r : OpenAnswer} {z : List ℤ} {h : List ℕ} {q : List ℤ} {m b : List ℕ} {c : List ℤ}
+    → OpenCameTo (opening sheet (lent (s .bed) (s .depth) (s .discharge) (s .mass) (s .base) (s .carried) (loaded list))) r z h q m b c
     → ((r .refusal ≡ 0 → ⊥) → p ≡ cameTo (r .refusal) (s .cellLength) (s .held))
     → (r .refusal ≡ 0 → p ≡ cameTo 0 (r .«cell_length») (r .held))
     → (out : List ℕ)
-    → Plays s f (openCall sheet) out p z h q m b c out
-plays-opening s f sheet p {r} {z} {h} {q} {m} {b} {c} k stopped opened out = go (eqb (r .refusal) 0) refl where
-  go : (y : Bool) → eqb (r .refusal) 0 ≡ y → Plays s f (openCall sheet) out p z h q m b c out
+    → Plays s f (openCall sheet list) out p z h q m b c out
+plays-opening s f sheet list p {r} {z} {h} {q} {m} {b} {c} k stopped opened out = go (eqb (r .refusal) 0) refl where
+  go : (y : Bool) → eqb (r .refusal) 0 ≡ y → Plays s f (openCall sheet list) out p z h q m b c out
   go true y =
       let e = eqb-true _ _ y in
       rw (opened e) (record {
-        refusal-is = sym (open-number s sheet k ∙ e);
+        refusal-is = sym (open-number s sheet (loaded list) k ∙ e);
         transported-is = refl;
         time-is = refl;
         place-is = refl;
-        reach-is = rw y at (open-next s sheet k);
+        reach-is = rw y at (open-next s f sheet list k);
         output-is = refl;
       })
   go false y =
       let n = eqb-false _ _ y in
       rw (stopped n) (record {
-        refusal-is = sym (open-number s sheet k);
+        refusal-is = sym (open-number s sheet (loaded list) k);
         transported-is = refl;
         time-is = refl;
         place-is = refl;
-        reach-is = rw y at (open-next s sheet k);
+        reach-is = rw y at (open-next s f sheet list k);
         output-is = refl;
       })
 
@@ -149,7 +151,7 @@ module _ (ws sheets : List ℕ) (room at : ℕ) where
   unfolding callAt
   is-write e = rw e refl
 
-  pub is-opening : 5 ≤ getD ws at 0 → callAt ws sheets room at ≡ openCall (part sheets (getD ws (at + 1) 0) (getD ws (at + 2) 0))
+  pub is-opening : 5 ≤ getD ws at 0 → callAt ws sheets room at ≡ openCall (part sheets (getD ws (at + 1) 0) (getD ws (at + 2) 0)) (outletsFrom ws (at + 45))
   unfolding callAt
   is-opening l =
       let w = getD ws at 0 in

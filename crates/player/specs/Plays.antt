@@ -11,32 +11,32 @@ use Rattle.reach.specs.declared.held.Held.{Held}
 use Rattle.timestep.specs.GreatestStep.{greatest}
 use Rattle.update.specs.Step.{transports}
 use Rattle.writing.specs.Writing.{outputAfter}
-use Rattle.tally.specs.Call.{Free, Call, stepCall, transportCall, boundariesCall, greatestCall, writeCall, openCall, refusalOf, next}
+use Rattle.tally.specs.Call.{Free, Call, stepCall, transportCall, boundariesCall, greatestCall, writeCall, openCall, withWants, refusalOf, next}
 use Rattle.player.specs.declared.Played.{Played}
 
 abbrev pub transportedBy : Reach → Free → Call → Bool
-transportedBy s f (stepCall t) = transports s t
+transportedBy s f (stepCall t) = transports (withWants (f .wants) s) t
 transportedBy s f transportCall = false
 transportedBy s f (boundariesCall es) = false
 transportedBy s f greatestCall = false
 transportedBy s f (writeCall room) = false
-transportedBy s f (openCall sheet) = false
+transportedBy s f (openCall sheet os) = false
 
 abbrev pub timeBy : Reach → Free → Call → ℕ
 timeBy s f (stepCall t) = 0
 timeBy s f transportCall = 0
 timeBy s f (boundariesCall es) = 0
-timeBy s f greatestCall = greatest s .time
+timeBy s f greatestCall = greatest (withWants (f .wants) s) .time
 timeBy s f (writeCall room) = 0
-timeBy s f (openCall sheet) = 0
+timeBy s f (openCall sheet os) = 0
 
 abbrev pub placeBy : Reach → Free → Call → ℕ
 placeBy s f (stepCall t) = 0
 placeBy s f transportCall = 0
 placeBy s f (boundariesCall es) = 0
-placeBy s f greatestCall = greatest s .place
+placeBy s f greatestCall = greatest (withWants (f .wants) s) .place
 placeBy s f (writeCall room) = 0
-placeBy s f (openCall sheet) = 0
+placeBy s f (openCall sheet os) = 0
 
 -- a write is lent the first `room` bytes of the output
 abbrev pub outputOf : Reach → Free → Call → (out : List ℕ) → List ℕ
@@ -44,8 +44,8 @@ outputOf s f (stepCall t) out = out
 outputOf s f transportCall out = out
 outputOf s f (boundariesCall es) out = out
 outputOf s f greatestCall out = out
-outputOf s f (writeCall room) out = outputAfter s (take room out) ++ drop room out
-outputOf s f (openCall sheet) out = out
+outputOf s f (writeCall room) out = outputAfter (withWants (f .wants) s) (take room out) ++ drop room out
+outputOf s f (openCall sheet os) out = out
 
 -- the answer of a call that gives no more than its number
 abbrev pub cameTo : (refusal X : ℕ) → Held → Played

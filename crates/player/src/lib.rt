@@ -3,7 +3,7 @@ pub mod call;
 
 use reach::held::Held;
 
-// What a call answered, and X, boundaries and ledger as it left them
+// What a call answered, and X, boundaries, ledger and outlets as it left them
 pub struct Played {
     pub refusal: u32,
     pub transported: bool,

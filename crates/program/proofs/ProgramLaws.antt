@@ -13,6 +13,7 @@ use Rattle.reach.specs.Grounds.{firstRefusal}
 use Rattle.reach.specs.Outcome.{Outcome}
 use Rattle.reach.specs.declared.ledger.Ledger.{Ledger}
 use Rattle.encoding.specs.FromBytes.{numberAt}
+use Rattle.outlet.specs.Outlets.{noOutlets}
 use Rattle.sheet.specs.Opening.{lent}
 use Rattle.play.specs.Play.{played}
 use Rattle.play.specs.Ranges.{PlayedTo}
@@ -38,7 +39,7 @@ take-replicate x zero (suc n) l = absurd (omega arith)
 take-replicate x (suc m) (suc n) l = ap (λ r. x ∷ r) (take-replicate x m n (le-of-suc-le-suc l))
 
 pub blank-is : (n : ℕ) → n ≤ 512
-    → lent (take n (replicate 512 (pos 0))) (take n (replicate 512 0)) (take n (replicate 512 (pos 0))) (take n (replicate 512 0)) (take n (replicate 512 0)) (take (n + 1) (replicate 513 (pos 0)))
+    → lent (take n (replicate 512 (pos 0))) (take n (replicate 512 0)) (take n (replicate 512 (pos 0))) (take n (replicate 512 0)) (take n (replicate 512 0)) (take (n + 1) (replicate 513 (pos 0))) noOutlets
     ≡ blank n
 unfolding blank
 blank-is n l =

@@ -12,12 +12,13 @@ use Rattle.encoding.specs.FromBytes.{numberAt}
 use Rattle.sheet.specs.Header.{headerSize}
 use Rattle.sheet.specs.Opening.{lent}
 use Rattle.play.specs.Play.{andThen, played}
+use Rattle.outlet.specs.Outlets.{noOutlets}
 use Rattle.report.specs.Report.{outcomeText}
 
--- columns for as many cells as the sheet's bytes hold
+-- columns for as many cells as the sheet's bytes hold, and an empty list of outlets
 unfoldable pub blank : ℕ → Reach
 blank n =
-    lent (replicate n (pos 0)) (replicate n 0) (replicate n (pos 0)) (replicate n 0) (replicate n 0) (replicate (n + 1) (pos 0))
+    lent (replicate n (pos 0)) (replicate n 0) (replicate n (pos 0)) (replicate n 0) (replicate n 0) (replicate (n + 1) (pos 0)) noOutlets
 
 -- the step count and t are there: 8 bytes
 unfoldable pub trailerFits : (size : ℕ) → Bool

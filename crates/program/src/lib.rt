@@ -5,6 +5,7 @@ ghost use lib.ListN.{length};
 ghost use Rattle.reach.specs.Limits.{cellsMost};
 ghost use Rattle.reach.specs.Grounds.{passOr};
 ghost use Rattle.sheet.specs.Header.{headerSize};
+ghost use Rattle.outlet.specs.Outlets.{noOutlets};
 ghost use Rattle.sheet.specs.Opening.{lent};
 ghost use Rattle.play.specs.Play.{played};
 ghost use Rattle.report.specs.Report.{outcomeText};
@@ -39,8 +40,8 @@ fn answer(
     out: &mut [u8],
 ) -> usize
     requires { ⌜ (length (now depth) ≤ 512) × ((length (now discharge) ≡ length (now depth)) × ((length (now mass) ≡ length (now depth)) × (65_536 ≤ length (now out)))) ⌝ }
-    ensures { λ r. ⌜ (r ≡ length (outcomeText (played (now (s .entry)) (lent (now (bed .entry)) (now (depth .entry)) (now (discharge .entry)) (now (mass .entry)) (now (base .entry)) (now (carried .entry))) count t))) × (r ≤ 65_536) ⌝ }
-    ensures { λ _. ⌜ Put (now (out .entry)) 0 (outcomeText (played (now (s .entry)) (lent (now (bed .entry)) (now (depth .entry)) (now (discharge .entry)) (now (mass .entry)) (now (base .entry)) (now (carried .entry))) count t)) (now (out .exit)) ⌝ }
+    ensures { λ r. ⌜ (r ≡ length (outcomeText (played (now (s .entry)) (lent (now (bed .entry)) (now (depth .entry)) (now (discharge .entry)) (now (mass .entry)) (now (base .entry)) (now (carried .entry)) noOutlets) count t))) × (r ≤ 65_536) ⌝ }
+    ensures { λ _. ⌜ Put (now (out .entry)) 0 (outcomeText (played (now (s .entry)) (lent (now (bed .entry)) (now (depth .entry)) (now (discharge .entry)) (now (mass .entry)) (now (base .entry)) (now (carried .entry)) noOutlets) count t)) (now (out .exit)) ⌝ }
 {
     let r = play(s, bed, depth, discharge, mass, base, carried, count, t);
     let ledger = r.held.ledger;

@@ -3,3 +3,4 @@ pub mod GroundsLaws
 pub mod CarriedLaws
 pub mod Sound
 pub mod BalanceLaws
+pub mod OutletLaws

@@ -1,4 +1,4 @@
--- What a record is that stands grounds 4 to 9: `sound` and `given-fits`, and back, `stands`. Assumes nothing.
+-- What a record is that stands grounds 4 to 9 and 16: `sound` and `given-fits`, and back, `stands`. Assumes nothing.
 use mathlib.Core.Path.{_≡_, refl, sym, ap, _∙_}
 use mathlib.Core.List.{List}
 use mathlib.Core.Bool.{Bool, true, false, cond}
@@ -7,16 +7,21 @@ use native.Mathlib.Omega.{arith}
 use lib.IntN.{ℤ, pos, negsuc, negℤ, natAbs}
 use lib.ListN.{length, getD}
 use lib.Dec.{eqb}
-use borrow.Author.Tests.{leb-true, eqb-true, le-leb, eq-eqb}
+use borrow.Author.Tests.{ltb-true, leb-true, eqb-true, le-leb, eq-eqb}
+use Rattle.numbers.specs.Index.{sum}
 use Rattle.numbers.specs.Signed.{positive}
 use Rattle.numbers.proofs.IndexLaws.{all-of, all-at, all-below, on, only}
 use Rattle.numbers.proofs.SignedLaws.{R, L, abs-parts}
+use Rattle.outlet.specs.Outlets.{outletsMost, wantMost, outletAt}
+use Rattle.outlet.specs.declared.Outlet.{Outlet}
+use Rattle.outlet.specs.declared.Outlets.{Outlets}
 use Rattle.flux.specs.Limits.{depthMost, velocityMost, bedMost, concentrationMost, cellLengthLeast, cellLengthMost}
 use Rattle.reach.specs.Limits.{cellsMost, carriedMost, totalMost, wall, openBoundary, fed}
 use Rattle.reach.specs.Reach.{Reach, cells, bedAt, depthAt, dischargeAt, massAt, baseAt, carriedAt, leftBoundary, rightBoundary}
-use Rattle.reach.specs.Grounds.{firstRefusal, recordGrounds, passOr, lengthsFit, cellLengthFits, wallFits, openFits, fedFits, kindFits, boundaryFits, boundariesFit, cellFits, cellsFit, carriedFits, shutFits, carriedCellsFit, carriedFit, totalsFit, ledgerFits}
-use Rattle.reach.specs.Parts.{outflow}
+use Rattle.reach.specs.Grounds.{firstRefusal, recordGrounds, passOr, lengthsFit, cellLengthFits, wallFits, openFits, fedFits, kindFits, boundaryFits, boundariesFit, cellFits, cellsFit, carriedFits, shutFits, carriedCellsFit, carriedFit, totalsFit, ledgerFits, outletFits, outletsFit, allTotalsFit}
+use Rattle.reach.specs.Parts.{outflow, drawnFrom}
 use Rattle.reach.specs.declared.boundary.Boundary.{Boundary}
+use Rattle.reach.specs.declared.held.Held.{Held}
 use Rattle.reach.specs.declared.ledger.Totals.{Totals}
 use Rattle.reach.specs.declared.ledger.Ledger.{Ledger}
 use Rattle.reach.specs.declared.refusal.Check.the-variants.{Pass}
@@ -126,33 +131,33 @@ cells-sound z h q m b e i l = cell-sound _ _ _ _ _ (all-at _ (length z) i e l)
 
 -- ---- 8
 
-pub record CarriedSound (h b : ℕ) (l r : ℤ) : Type 0 where
+pub record CarriedSound (h b : ℕ) (l r : ℤ) (ds : List ℕ) : Type 0 where
   pub left : natAbs l ≤ carriedMost
   pub right : natAbs r ≤ carriedMost
-  pub balance : h + outflow l r ≡ b + positive l + positive (negℤ r)
-  pub covered : outflow l r ≤ b
+  pub balance : h + outflow l r ds ≡ b + positive l + positive (negℤ r)
+  pub covered : outflow l r ds ≤ b
 
-module _ (h b : ℕ) (l r : ℤ) where
-  carried-sound : carriedFits h b l r ≡ true → CarriedSound h b l r
+module _ (h b : ℕ) (l r : ℤ) (ds : List ℕ) where
+  pub carried-sound : carriedFits h b l r ds ≡ true → CarriedSound h b l r ds
   carried-sound e =
-      let t = all-of _ (sym (carried-is h b l r refl refl refl refl) ∙ e) in
+      let t = all-of _ (sym (carried-is h b l r ds refl refl refl refl refl) ∙ e) in
       record {
         left = omega (arith, abs-parts l, leb-true (R l + L l) depthMost (t 0));
         right = omega (arith, abs-parts r, leb-true (L r + R r) depthMost (t 1));
-        balance = omega (arith, outflow-is l r, eqb-true (h + L l + R r) (b + R l + L r) (t 2));
-        covered = omega (arith, outflow-is l r, leb-true (R r + L l) b (t 3));
+        balance = omega (arith, outflow-is l r ds, eqb-true (h + L l + R r + sum ds) (b + R l + L r) (t 2));
+        covered = omega (arith, outflow-is l r ds, leb-true (R r + L l + sum ds) b (t 3));
       }
 
-  carried-stands : CarriedSound h b l r → carriedFits h b l r ≡ true
+  pub carried-stands : CarriedSound h b l r ds → carriedFits h b l r ds ≡ true
   carried-stands s =
-      carried-is h b l r refl refl refl refl
+      carried-is h b l r ds refl refl refl refl refl
       ∙ on _ _ (le-leb (R l + L l) depthMost (omega (arith, abs-parts l))) (on _ _ (le-leb (L r + R r) depthMost (omega (arith, abs-parts r)))
-      (on _ _ (eq-eqb (h + L l + R r) (b + R l + L r) (omega (arith, outflow-is l r))) (only _ ∙ le-leb (R r + L l) b (omega (arith, outflow-is l r)))))
+      (on _ _ (eq-eqb (h + L l + R r + sum ds) (b + R l + L r) (omega (arith, outflow-is l r ds))) (only _ ∙ le-leb (R r + L l + sum ds) b (omega (arith, outflow-is l r ds)))))
 
--- where nothing is carried, depth and base depth may agree
-pub none-carried : (h : ℕ) → CarriedSound h h (pos 0) (pos 0)
-none-carried h =
-    let o = outflow-is (pos 0) (pos 0) in
+-- where nothing is carried and nothing drawn, depth and base depth may agree
+pub none-carried : (h : ℕ) (ds : List ℕ) → sum ds ≡ 0 → CarriedSound h h (pos 0) (pos 0) ds
+none-carried h ds none =
+    let o = outflow-is (pos 0) (pos 0) ds in
     record { left = omega arith; right = omega arith; balance = omega arith; covered = omega arith }
 
 no-size : (z : ℤ) → natAbs z ≡ 0 → z ≡ pos 0
@@ -194,7 +199,29 @@ pub ledger-right : (k : Ledger) → ledgerFits k ≡ true → totalsFit (k .righ
 unfolding ledgerFits
 ledger-right k e = all-of _ e 1
 
--- ---- 4 to 9
+-- ---- 16
+
+pub record OutletSound (n : ℕ) (o : Outlet) : Type 0 where
+  pub cell : o .cell < n
+  pub want : o .want ≤ wantMost
+
+module _ (n : ℕ) (os : Outlets) (e : outletsFit n os ≡ true) where
+  pub outlets-few : os .count ≤ outletsMost
+  unfolding outletsFit
+  outlets-few = leb-true _ _ (all-of _ e 0)
+
+  pub outlet-sound : (k : ℕ) → k < os .count → OutletSound n (outletAt os k)
+  unfolding outletsFit outletFits
+  outlet-sound k l =
+      let t = all-of _ (all-at _ (os .count) k (all-of _ e 1) l) in
+      record { cell = ltb-true _ _ (t 0); want = leb-true _ _ (t 1) }
+
+-- 9: the ledger's totals
+pub ledger-fits : (h : Held) → allTotalsFit h ≡ true → ledgerFits (h .ledger) ≡ true
+unfolding allTotalsFit
+ledger-fits h e = all-of _ e 0
+
+-- ---- 4 to 9, and 16
 
 pub record Sound (s : Reach) : Type 0 where
   pub some : 1 ≤ cells s
@@ -210,10 +237,11 @@ pub record Sound (s : Reach) : Type 0 where
   pub right : BoundarySound (rightBoundary (s .held .boundaries))
   pub boundaries : boundariesFit (s .held .boundaries) ≡ true
   pub cell : (i : ℕ) → i < cells s → CellSound (bedAt s i) (depthAt s i) (dischargeAt s i) (massAt s i) (baseAt s i)
-  pub water : (i : ℕ) → i < cells s → CarriedSound (depthAt s i) (baseAt s i) (carriedAt s i) (carriedAt s (i + 1))
+  pub water : (i : ℕ) → i < cells s → CarriedSound (depthAt s i) (baseAt s i) (carriedAt s i) (carriedAt s (i + 1)) (drawnFrom (s .held .outlets) i)
   pub shutLeft : leftBoundary (s .held .boundaries) .kind ≡ wall → carriedAt s 0 ≡ pos 0
   pub shutRight : rightBoundary (s .held .boundaries) .kind ≡ wall → carriedAt s (cells s) ≡ pos 0
-  pub ledger : ledgerFits (s .held .ledger) ≡ true
+  pub outlets : outletsFit (cells s) (s .held .outlets) ≡ true
+  pub totals : allTotalsFit (s .held) ≡ true
 
 module _ (s : Reach) (es : List Boundary) where
   pub sound : firstRefusal (recordGrounds s es) ≡ Pass → Sound s
@@ -223,7 +251,7 @@ module _ (s : Reach) (es : List Boundary) where
       let n = lengths-sound _ _ _ _ _ _ (t 0) in
       let x = all-of _ (t 1) in
       let boundaries = all-of _ (t 2) in
-      let water = all-of _ (t 5) in
+      let water = all-of _ (t 6) in
       record {
         some = n .some;
         few = n .few;
@@ -238,10 +266,11 @@ module _ (s : Reach) (es : List Boundary) where
         right = boundary-sound _ (boundaries 1);
         boundaries = t 2;
         cell = cells-sound _ _ _ _ _ (t 4);
-        water = λ i l. carried-sound _ _ _ _ (all-at _ (length (s .depth)) i (water 0) (omega arith));
+        water = λ i l. carried-sound _ _ _ _ _ (all-at _ (length (s .depth)) i (water 0) (omega arith));
         shutLeft = shut-sound _ _ (water 1);
         shutRight = rw (n .depths) at (shut-sound (rightBoundary (s .held .boundaries) .kind) (carriedAt s (length (s .depth))) (water 2));
-        ledger = t 6;
+        outlets = t 5;
+        totals = t 7;
       }
 
   pub given-fits : firstRefusal (recordGrounds s es) ≡ Pass → boundariesFit es ≡ true
@@ -265,6 +294,7 @@ module _ (s : Reach) (es : List Boundary) where
       (go-on _ _ (k .boundaries)
       (go-on _ _ g
       (go-on _ _ (all-below _ (cells s) (λ i l. cell-stands _ _ _ _ _ (k .cell i l)))
-      (go-on _ _ (on _ _ (all-below _ (length (s .depth)) (λ i l. carried-stands _ _ _ _ (k .water i (omega arith))))
+      (go-on _ _ (k .outlets)
+      (go-on _ _ (on _ _ (all-below _ (length (s .depth)) (λ i l. carried-stands _ _ _ _ _ (k .water i (omega arith))))
       (on _ _ (shut-stands _ _ (k .shutLeft)) (only _ ∙ shut-stands _ _ last)))
-      (last-one 9 _ ∙ ap (passOr 9) (k .ledger)))))))
+      (last-one 9 _ ∙ ap (passOr 9) (k .totals))))))))

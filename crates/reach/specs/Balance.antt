@@ -1,13 +1,16 @@
--- Demand 3: what it measures of a record: water and mass held, what the ledger says came in and went out, and bounds on the concentration.
+-- Demand 3: what it measures of a record: water and mass held, what came in and went out, and bounds on the concentration.
 use mathlib.Core.Path.{_≡_}
 use mathlib.Core.List.{List}
 use Prim.Native.Nat.{ℕ, _+_, _<_}
 use lib.IntN.{ℤ, pos, _*ℤ_}
 use lib.Signed.{_≤ℤ_}
-use Rattle.numbers.specs.Index.{sum}
+use Rattle.numbers.specs.Index.{sum, sumBelow}
+use Rattle.outlet.specs.Outlets.{outletAt}
+use Rattle.outlet.specs.declared.Outlets.{Outlets}
 use Rattle.reach.specs.Limits.{wall}
 use Rattle.reach.specs.Reach.{Reach, cells, massAt, baseAt, leftBoundary, rightBoundary}
 use Rattle.reach.specs.declared.boundary.Boundary.{Boundary}
+use Rattle.reach.specs.declared.held.Held.{Held}
 use Rattle.reach.specs.declared.ledger.Ledger.{Ledger}
 
 unfoldable pub waterHeld : Reach → ℕ
@@ -19,9 +22,17 @@ waterIn k = k .left .«water_in» + k .right .«water_in»
 unfoldable pub waterOut : Ledger → ℕ
 waterOut k = k .left .«water_out» + k .right .«water_out»
 
--- from s to t no water is lost or made: what is held changes by what the ledger gained in less what it gained out
+-- what the outlets have drawn (document 02, point 1: 'the balance has the outlets beside the ends')
+unfoldable pub outletWater : Outlets → ℕ
+outletWater os = sumBelow (os .count) (λ k. outletAt os k .water)
+
+-- all that went out, over the boundaries and by the outlets
+unfoldable pub waterGone : Held → ℕ
+waterGone h = waterOut (h .ledger) + outletWater (h .outlets)
+
+-- from s to t no water is lost or made: what is held changes by what came in less what went out
 unfoldable pub WaterBalanced : (s t : Reach) → Type 0
-WaterBalanced s t = waterHeld t + waterOut (t .held .ledger) + waterIn (s .held .ledger) ≡ waterHeld s + waterOut (s .held .ledger) + waterIn (t .held .ledger)
+WaterBalanced s t = waterHeld t + waterGone (t .held) + waterIn (s .held .ledger) ≡ waterHeld s + waterGone (s .held) + waterIn (t .held .ledger)
 
 unfoldable pub massHeld : Reach → ℕ
 massHeld s = sum (s .mass)
@@ -32,9 +43,15 @@ massIn k = k .left .«mass_in» + k .right .«mass_in»
 unfoldable pub massOut : Ledger → ℕ
 massOut k = k .left .«mass_out» + k .right .«mass_out»
 
+unfoldable pub outletMass : Outlets → ℕ
+outletMass os = sumBelow (os .count) (λ k. outletAt os k .mass)
+
+unfoldable pub massGone : Held → ℕ
+massGone h = massOut (h .ledger) + outletMass (h .outlets)
+
 -- the same of mass
 unfoldable pub MassBalanced : (s t : Reach) → Type 0
-MassBalanced s t = massHeld t + massOut (t .held .ledger) + massIn (s .held .ledger) ≡ massHeld s + massOut (s .held .ledger) + massIn (t .held .ledger)
+MassBalanced s t = massHeld t + massGone (t .held) + massIn (s .held .ledger) ≡ massHeld s + massGone (s .held) + massIn (t .held .ledger)
 
 -- Bounds are whole numbers by place: 0 the left boundary, 1..n the cells, n+1 the right boundary. A number by itself, at every place:
 abbrev pub everywhere : ℤ → ℕ → ℤ

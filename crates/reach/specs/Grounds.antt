@@ -1,17 +1,21 @@
--- Document 01, 'Grounds for refusal, in checking order': the list, and grounds 4 to 9.
+-- Document 01, 'Grounds for refusal, in checking order': the list, and grounds 4 to 9; document 02's 16.
 use mathlib.Core.List.{List, [], _∷_}
 use mathlib.Core.Bool.{Bool, true, false, cond}
 use Prim.Native.Nat.{ℕ, _+_, _*_}
 use lib.IntN.{ℤ, pos, _+ℤ_, _-ℤ_, natAbs}
 use lib.ListN.{length, getD}
-use lib.Dec.{leb, eqb}
-use Rattle.numbers.specs.Index.{allOf, allBelow}
+use lib.Dec.{leb, ltb, eqb}
+use Rattle.numbers.specs.Index.{allOf, allBelow, sum}
 use Rattle.numbers.specs.Signed.{eqℤ}
+use Rattle.outlet.specs.Outlets.{outletsMost, wantMost, outletAt}
+use Rattle.outlet.specs.declared.Outlet.{Outlet}
+use Rattle.outlet.specs.declared.Outlets.{Outlets}
 use Rattle.flux.specs.Limits.{depthMost, velocityMost, bedMost, concentrationMost, cellLengthLeast, cellLengthMost}
 use Rattle.reach.specs.Limits.{cellsMost, carriedMost, totalMost, wall, openBoundary, fed}
 use Rattle.reach.specs.Reach.{Reach, leftBoundary, rightBoundary}
-use Rattle.reach.specs.Parts.{outflow}
+use Rattle.reach.specs.Parts.{outflow, drawnFrom}
 use Rattle.reach.specs.declared.boundary.Boundary.{Boundary}
+use Rattle.reach.specs.declared.held.Held.{Held}
 use Rattle.reach.specs.declared.ledger.Totals.{Totals}
 use Rattle.reach.specs.declared.ledger.Ledger.{Ledger}
 use Rattle.reach.specs.declared.refusal.Check.{Check}
@@ -90,31 +94,39 @@ unfoldable pub cellsFit : List ℤ → List ℕ → List ℤ → List ℕ → Li
 cellsFit z h q m b =
     allBelow (length z) (λ i. cellFits (getD z i (pos 0)) (getD h i 0) (getD q i (pos 0)) (getD m i 0) (getD b i 0))
 
+-- ---- 16 (document 02, point 1), checked after 7: the list of outlets is no longer than 32, each is in one of the n cells, and no want is out of range
+unfoldable pub outletFits : (n : ℕ) → Outlet → Bool
+outletFits n o = allOf (ltb (o .cell) n ∷ leb (o .want) wantMost ∷ [])
+
+unfoldable pub outletsFit : (n : ℕ) → Outlets → Bool
+outletsFit n os = allOf (leb (os .count) outletsMost ∷ allBelow (os .count) (λ k. outletFits n (outletAt os k)) ∷ [])
+
 -- ---- 8: the carried water keeps its rules
 
--- at a cell of depth h and base depth b with l carried over its left and r over its right:
--- |c| ≤ 4,000,000, h = b + c(i) − c(i+1), and max(c(i+1),0) + max(−c(i),0) ≤ b: no more left than the base depth
-unfoldable pub carriedFits : (h b : ℕ) (l r : ℤ) → Bool
-carriedFits h b l r =
+-- at a cell of depth h and base depth b with l carried over its left, r over its right, and `drawn` by its outlets:
+-- |c| ≤ 4,000,000, h = b + c(i) − c(i+1) − drawn, and max(c(i+1),0) + max(−c(i),0) + drawn ≤ b: no more left than the base depth
+unfoldable pub carriedFits : (h b : ℕ) (l r : ℤ) (drawn : List ℕ) → Bool
+carriedFits h b l r drawn =
     allOf
     (leb (natAbs l) carriedMost
     ∷ leb (natAbs r) carriedMost
-    ∷ eqℤ (pos h) (pos b +ℤ l -ℤ r)
-    ∷ leb (outflow l r) b
+    ∷ eqℤ (pos h) (pos b +ℤ l -ℤ r -ℤ pos (sum drawn))
+    ∷ leb (outflow l r drawn) b
     ∷ [])
 
 -- at a wall c is 0
 unfoldable pub shutFits : (kind : ℕ) (c : ℤ) → Bool
 shutFits kind c = cond (eqb kind wall) (eqb (natAbs c) 0) true
 
-unfoldable pub carriedCellsFit : (h b : List ℕ) (c : List ℤ) → Bool
-carriedCellsFit h b c =
-    allBelow (length h) (λ i. carriedFits (getD h i 0) (getD b i 0) (getD c i (pos 0)) (getD c (i + 1) (pos 0)))
+-- `drawn` by cell
+unfoldable pub carriedCellsFit : (h b : List ℕ) (c : List ℤ) (drawn : ℕ → List ℕ) → Bool
+carriedCellsFit h b c drawn =
+    allBelow (length h) (λ i. carriedFits (getD h i 0) (getD b i 0) (getD c i (pos 0)) (getD c (i + 1) (pos 0)) (drawn i))
 
-unfoldable pub carriedFit : (h b : List ℕ) (c : List ℤ) (leftKind rightKind : ℕ) → Bool
-carriedFit h b c leftKind rightKind =
+unfoldable pub carriedFit : (h b : List ℕ) (c : List ℤ) (drawn : ℕ → List ℕ) (leftKind rightKind : ℕ) → Bool
+carriedFit h b c drawn leftKind rightKind =
     allOf
-    (carriedCellsFit h b c
+    (carriedCellsFit h b c drawn
     ∷ shutFits leftKind (getD c 0 (pos 0))
     ∷ shutFits rightKind (getD c (length h) (pos 0))
     ∷ [])
@@ -127,7 +139,14 @@ totalsFit t =
 unfoldable pub ledgerFits : Ledger → Bool
 ledgerFits k = allOf (totalsFit (k .left) ∷ totalsFit (k .right) ∷ [])
 
--- ---- grounds 4 to 9 of a call on the record s that is given the pair of boundaries es to hold; a call that is given none
+-- 9 includes the totals of the outlets
+unfoldable pub outletTotalsFit : Outlet → Bool
+outletTotalsFit o = allOf (leb (o .water) totalMost ∷ leb (o .mass) totalMost ∷ [])
+
+unfoldable pub allTotalsFit : Held → Bool
+allTotalsFit h = allOf (ledgerFits (h .ledger) ∷ allBelow (h .outlets .count) (λ k. outletTotalsFit (outletAt (h .outlets) k)) ∷ [])
+
+-- ---- grounds 4 to 9, and 16, of a call on the record s that is given the pair of boundaries es to hold; a call that is given none
 -- holds the pair that it has
 abbrev pub recordGrounds : Reach → List Boundary → List Ground
 recordGrounds s es =
@@ -136,6 +155,7 @@ recordGrounds s es =
     ∷ ground 6 (boundariesFit (s .held .boundaries))
     ∷ ground 6 (boundariesFit es)
     ∷ ground 7 (cellsFit (s .bed) (s .depth) (s .discharge) (s .mass) (s .base))
-    ∷ ground 8 (carriedFit (s .depth) (s .base) (s .carried) (leftBoundary (s .held .boundaries) .kind) (rightBoundary (s .held .boundaries) .kind))
-    ∷ ground 9 (ledgerFits (s .held .ledger))
+    ∷ ground 16 (outletsFit (length (s .bed)) (s .held .outlets))
+    ∷ ground 8 (carriedFit (s .depth) (s .base) (s .carried) (drawnFrom (s .held .outlets)) (leftBoundary (s .held .boundaries) .kind) (rightBoundary (s .held .boundaries) .kind))
+    ∷ ground 9 (allTotalsFit (s .held))
     ∷ []

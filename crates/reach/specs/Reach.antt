@@ -6,6 +6,7 @@ use denote.Triple.Both.{Both}
 use Prim.Native.Nat.{ℕ}
 use lib.IntN.{ℤ, pos}
 use lib.ListN.{length, getD}
+use Rattle.outlet.specs.declared.Outlets.{Outlets}
 use Rattle.reach.specs.declared.boundary.Boundary.{Boundary}
 use Rattle.reach.specs.declared.held.Held.{Held}
 use Rattle.reach.specs.declared.ledger.Ledger.{Ledger}
@@ -23,7 +24,7 @@ pub record Reach : Type 0 where
   pub carried : List ℤ
   -- X, mm
   pub cellLength : ℕ
-  -- the boundaries, left and right, and the ledger
+  -- the boundaries, left and right, the ledger, and the outlets along the reach (document 02, point 1)
   pub held : Held
 
 abbrev pub reachOf : List ℤ → List ℕ → List ℤ → List ℕ → List ℕ → List ℤ → ℕ → Held → Reach
@@ -33,16 +34,16 @@ reachOf z h q m b c X k = record { bed = z; depth = h; discharge = q; mass = m; 
 abbrev pub came : Both (RefT (List ℤ)) (RefT (List ℤ)) → Both (RefT (List ℕ)) (RefT (List ℕ)) → Both (RefT (List ℤ)) (RefT (List ℤ)) → Both (RefT (List ℕ)) (RefT (List ℕ)) → Both (RefT (List ℕ)) (RefT (List ℕ)) → Both (RefT (List ℤ)) (RefT (List ℤ)) → ℕ → Held → Reach
 came z h q m b c X k = reachOf (now (z .entry)) (now (h .entry)) (now (q .entry)) (now (m .entry)) (now (b .entry)) (now (c .entry)) X k
 
--- what is held, made of a pair of boundaries and a ledger; with another pair; with another ledger. A field that is added stands here, and
+-- what is held, made of a pair of boundaries, a ledger and the list of outlets; with another pair; with another ledger; with another ledger and other outlets. A field that is added stands here, and
 -- not where one of these is named
-abbrev pub heldWith : List Boundary → Ledger → Held
-heldWith es k = record { boundaries = es; ledger = k }
+abbrev pub heldWith : List Boundary → Ledger → Outlets → Held
+heldWith es k os = record { boundaries = es; ledger = k; outlets = os }
 
 abbrev pub withBoundaries : List Boundary → Held → Held
-withBoundaries es h = record { boundaries = es; ledger = h .ledger }
+withBoundaries es h = record { boundaries = es; ledger = h .ledger; outlets = h .outlets }
 
-abbrev pub withLedger : Ledger → Held → Held
-withLedger k h = record { boundaries = h .boundaries; ledger = k }
+abbrev pub withTotals : Ledger → Outlets → Held → Held
+withTotals k os h = record { boundaries = h .boundaries; ledger = k; outlets = os }
 
 -- n
 abbrev pub cells : Reach → ℕ

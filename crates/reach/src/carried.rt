@@ -1,19 +1,26 @@
 // Carried water: ground 8.
 ghost use mathlib.Core.Path.{_≡_};
+ghost use mathlib.Core.Bool.{true};
+ghost use mathlib.Core.List.{[], _∷_};
 ghost use Prim.Native.Nat.{_≤_};
+ghost use lib.ListN.{length};
 ghost use Rattle.flux.specs.Limits.{depthMost};
-ghost use Rattle.reach.specs.Grounds.{carriedFits, carriedCellsFit, shutFits, carriedFit, passOr};
-ghost use Rattle.reach.specs.Ranges.{CarriedLengths};
+ghost use Rattle.reach.specs.Grounds.{carriedFits, carriedCellsFit, shutFits, carriedFit, outletsFit, passOr};
+ghost use Rattle.reach.specs.Ranges.{CarriedColumns, CarriedLengths, alone};
+ghost use Rattle.reach.specs.Parts.{drawnFrom};
 use super::boundary::WALL;
+use super::cells::CELLS_MOST;
+use super::outlets::drawn_by_cell;
 use super::refusal::Check;
 use numbers::signed::left_part;
 use numbers::signed::magnitude;
 use numbers::signed::right_part;
+use outlet::Outlets;
 
-// h = b + l − r is tested with its negative parts on the other side.
-fn carried_fits(h: u64, b: u64, l: i64, r: i64) -> bool
-    requires { ⌜ (h ≤ depthMost) × (b ≤ depthMost) ⌝ }
-    ensures { λ t. ⌜ t ≡ carriedFits h b l r ⌝ }
+// h = b + l − r − drawn is tested with its negative parts on the other side.
+fn carried_fits(h: u64, b: u64, l: i64, r: i64, drawn: u64) -> bool
+    requires { ⌜ (h ≤ depthMost) × ((b ≤ depthMost) × (drawn ≤ 1_000_000_000)) ⌝ }
+    ensures { λ t. ⌜ t ≡ carriedFits h b l r (drawn ∷ []) ⌝ }
 {
     let left_in = right_part(l);
     let left_out = left_part(l);
@@ -25,10 +32,10 @@ fn carried_fits(h: u64, b: u64, l: i64, r: i64) -> bool
     if 4_000_000 < right_in + right_out {
         return false;
     }
-    if h + left_out + right_out != b + left_in + right_in {
+    if h + left_out + right_out + drawn != b + left_in + right_in {
         return false;
     }
-    right_out + left_out <= b
+    right_out + left_out + drawn <= b
 }
 
 // At a wall nothing is carried.
@@ -41,14 +48,14 @@ fn shut_fits(kind: u32, c: i64) -> bool
     magnitude(c) == 0
 }
 
-fn check_carried_cells(depth: &[u64], base: &[u64], carried: &[i64]) -> Check
-    requires { ⌜ CarriedLengths (now depth) (now base) (now carried) ⌝ }
-    ensures { λ r. ⌜ r ≡ passOr 8 (carriedCellsFit (now (depth .entry)) (now (base .entry)) (now (carried .entry))) ⌝ }
+fn check_carried_cells(depth: &[u64], base: &[u64], carried: &[i64], drawn: &[u64]) -> Check
+    requires { ⌜ CarriedLengths (now depth) (now base) (now carried) (now drawn) ⌝ }
+    ensures { λ r. ⌜ r ≡ passOr 8 (carriedCellsFit (now (depth .entry)) (now (base .entry)) (now (carried .entry)) (alone (now (drawn .entry)))) ⌝ }
 {
     let n = depth.len();
     let mut i = 0;
     while i < n {
-        if !carried_fits(depth[i], base[i], carried[i], carried[i + 1]) {
+        if !carried_fits(depth[i], base[i], carried[i], carried[i + 1], drawn[i]) {
             return Check::Refused(8);
         }
         i += 1;
@@ -56,17 +63,19 @@ fn check_carried_cells(depth: &[u64], base: &[u64], carried: &[i64]) -> Check
     Check::Pass
 }
 
-pub fn check_carried(
+// `drawn` is what the outlets of each cell have drawn together.
+fn check_carried_with(
     depth: &[u64],
     base: &[u64],
     carried: &[i64],
+    drawn: &[u64],
     left_kind: u32,
     right_kind: u32,
 ) -> Check
-    requires { ⌜ CarriedLengths (now depth) (now base) (now carried) ⌝ }
-    ensures { λ r. ⌜ r ≡ passOr 8 (carriedFit (now (depth .entry)) (now (base .entry)) (now (carried .entry)) «left_kind» «right_kind») ⌝ }
+    requires { ⌜ CarriedLengths (now depth) (now base) (now carried) (now drawn) ⌝ }
+    ensures { λ r. ⌜ r ≡ passOr 8 (carriedFit (now (depth .entry)) (now (base .entry)) (now (carried .entry)) (alone (now (drawn .entry))) «left_kind» «right_kind») ⌝ }
 {
-    let Check::Pass = check_carried_cells(depth, base, carried) else {
+    let Check::Pass = check_carried_cells(depth, base, carried, drawn) else {
         return Check::Refused(8);
     };
     if !shut_fits(left_kind, carried[0]) {
@@ -76,4 +85,22 @@ pub fn check_carried(
         return Check::Refused(8);
     }
     Check::Pass
+}
+
+// Ground 8, of a list of outlets that stood ground 16
+pub fn check_carried(
+    depth: &[u64],
+    base: &[u64],
+    carried: &[i64],
+    outlets: Outlets,
+    left_kind: u32,
+    right_kind: u32,
+) -> Check
+    requires { ⌜ CarriedColumns (now depth) (now base) (now carried) ⌝ }
+    requires { ⌜ outletsFit (length (now depth)) outlets ≡ true ⌝ }
+    ensures { λ r. ⌜ r ≡ passOr 8 (carriedFit (now (depth .entry)) (now (base .entry)) (now (carried .entry)) (drawnFrom outlets) «left_kind» «right_kind») ⌝ }
+{
+    let mut drawn = [0u64; CELLS_MOST];
+    drawn_by_cell(outlets, &mut drawn);
+    check_carried_with(depth, base, carried, &drawn, left_kind, right_kind)
 }

@@ -1,7 +1,6 @@
-// The ledger, the paper's 'book': what passed each boundary since opening, and ground 9.
+// The ledger, the paper's 'book': what passed each boundary since opening, and its part of ground 9.
 ghost use mathlib.Core.Path.{_≡_};
-ghost use Rattle.reach.specs.Grounds.{totalsFit, ledgerFits, passOr};
-use super::refusal::Check;
+ghost use Rattle.reach.specs.Grounds.{totalsFit, ledgerFits};
 
 // Water in micrometres of depth, mass in the paper's 'grains' (one micrometre of depth at concentration 1)
 #[repr(C)]
@@ -44,13 +43,4 @@ pub fn ledger_fits(k: Ledger) -> bool
         return false;
     }
     totals_fit(right)
-}
-
-pub fn check_ledger(k: Ledger) -> Check
-    ensures { λ r. ⌜ r ≡ passOr 9 (ledgerFits k) ⌝ }
-{
-    if !ledger_fits(k) {
-        return Check::Refused(9);
-    }
-    Check::Pass
 }

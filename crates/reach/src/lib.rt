@@ -1,13 +1,14 @@
 // The record of a reach, and the checks that every call on a record starts with (document 01, 'What a record holds' and
-// 'Grounds for refusal', 4 to 9).
+// 'Grounds for refusal', 4 to 9; document 02, point 1, 16).
 //
 // A record is lent as six columns: bed level z, depth h, discharge q, mass m and base depth b of each cell, and carried water c of each
-// interface. With them travel the cell length X, both boundaries as one value, and the ledger.
+// interface. With them travel the cell length X, both boundaries as one value, the ledger and the outlets.
 pub mod boundary;
 pub mod carried;
 pub mod cells;
 pub mod held;
 pub mod ledger;
+pub mod outlets;
 pub mod refusal;
 
 ghost use mathlib.Core.Path.{_≡_};
@@ -20,10 +21,11 @@ use cells::check_cell_length;
 use cells::check_cells;
 use cells::check_lengths;
 use held::Held;
-use ledger::check_ledger;
+use held::check_totals;
+use outlets::check_outlets;
 use refusal::Check;
 
-// Grounds 4 to 9 in checking order. A call that is given a new pair of boundaries has it checked as `given`; any other gives the pair
+// Grounds 4 to 7, 16, 8 and 9: the checking order of every call on a record. A call that is given a new pair of boundaries has it checked as `given`; any other gives the pair
 // that it holds.
 pub fn check_record(
     bed: &[i64],
@@ -53,16 +55,21 @@ pub fn check_record(
     let Check::Pass = check_cells(bed, depth, discharge, mass, base) else {
         return Check::Refused(7);
     };
+    let outlets = held.outlets;
+    let Check::Pass = check_outlets(bed.len(), outlets) else {
+        return Check::Refused(16);
+    };
     let Check::Pass = check_carried(
         depth,
         base,
         carried,
+        outlets,
         held.boundaries[0].kind,
         held.boundaries[1].kind,
     ) else {
         return Check::Refused(8);
     };
-    let Check::Pass = check_ledger(held.ledger) else {
+    let Check::Pass = check_totals(held) else {
         return Check::Refused(9);
     };
     Check::Pass

@@ -1,18 +1,22 @@
--- Every list of calls has its memory: thirteen words a call, the sheets one after the other, and room for every write. Assumes nothing.
-use mathlib.Core.Path.{_≡_, refl, ap, ap₂, _∙_}
+-- Every list of calls has its memory: 206 words a call, the sheets one after the other, and room for every write. Assumes nothing.
+use mathlib.Core.Path.{_≡_, refl, sym, ap, ap₂, _∙_}
 use mathlib.Core.List.{List, [], _∷_, _++_, append-assoc}
 use Prim.Native.Nat.{ℕ, zero, suc, _+_, _-_, _*_, _/_, _%_, _≤_, _<_, min, max}
 use native.Mathlib.Omega.{arith}
 use lib.IntN.{ℤ, pos, negsuc}
-use lib.ListN.{length, getD, length-append}
+use lib.ListN.{length, getD, replicate, length-append, length-replicate, List·getD-append}
 use lib.Seq.{getD-append-add, drop-append-seam, take-append-seam}
+use Rattle.numbers.specs.Index.{tabulate}
+use Rattle.numbers.proofs.IndexLaws.{by-index, tabulate-same}
+use Rattle.outlet.specs.Outlets.{outletsMost, noOutlet}
+use Rattle.outlet.specs.declared.Outlet.{Outlet}
 use Rattle.reach.specs.declared.boundary.Boundary.{Boundary}
 use Rattle.encoding.specs.FromBytes.{twos}
 use Rattle.encoding.proofs.FromBytesLaws.{twos-low, twos-high}
-use Rattle.tally.specs.Call.{Call, Entry, stepCall, transportCall, boundariesCall, greatestCall, writeCall, openCall}
+use Rattle.tally.specs.Call.{Call, Free, Entry, stepCall, transportCall, boundariesCall, greatestCall, writeCall, openCall}
 use Rattle.tally.specs.Holds.{Each}
-use Rattle.script.specs.Script.{boundaryFrom, part, callAt, entriesFrom, script}
-use Rattle.script.specs.Every.{Word, HalfWord, Byte, SignedWord, Stored, Given, EntryGiven, sheetPart, sheetsSize, EveryList}
+use Rattle.script.specs.Script.{boundaryFrom, part, wantsFrom, outletFrom, outletsFrom, callAt, entryAt, entriesFrom, script}
+use Rattle.script.specs.Every.{Word, HalfWord, Byte, SignedWord, Stored, StoredOutlet, Given, EntryGiven, sheetPart, sheetsSize, EveryList}
 
 -- ---- the memory of a list
 
@@ -31,13 +35,33 @@ tenOf (e ∷ f ∷ []) =
 tenOf (e ∷ f ∷ g ∷ es) = 0 ∷ 0 ∷ 0 ∷ 0 ∷ 0 ∷ 0 ∷ 0 ∷ 0 ∷ 0 ∷ 0 ∷ []
 
 -- one call's thirteen, where its sheet, if it has one, stands from byte `start` on
-oneOf : (start : ℕ) → Call → List ℕ
-oneOf start (stepCall t) = 0 ∷ t ∷ 0 ∷ tenOf []
-oneOf start transportCall = 1 ∷ 0 ∷ 0 ∷ tenOf []
-oneOf start (boundariesCall es) = 2 ∷ 0 ∷ 0 ∷ tenOf es
-oneOf start greatestCall = 3 ∷ 0 ∷ 0 ∷ tenOf []
-oneOf start (writeCall room) = 4 ∷ room ∷ 0 ∷ tenOf []
-oneOf start (openCall sheet) = 5 ∷ start ∷ (start + length sheet) ∷ tenOf []
+callWords : (start : ℕ) → Call → List ℕ
+callWords start (stepCall t) = 0 ∷ t ∷ 0 ∷ tenOf []
+callWords start transportCall = 1 ∷ 0 ∷ 0 ∷ tenOf []
+callWords start (boundariesCall es) = 2 ∷ 0 ∷ 0 ∷ tenOf es
+callWords start greatestCall = 3 ∷ 0 ∷ 0 ∷ tenOf []
+callWords start (writeCall room) = 4 ∷ room ∷ 0 ∷ tenOf []
+callWords start (openCall sheet os) = 5 ∷ start ∷ (start + length sheet) ∷ tenOf []
+
+-- the list lent to an opening
+lentBy : Call → List Outlet
+lentBy (stepCall t) = []
+lentBy transportCall = []
+lentBy (boundariesCall es) = []
+lentBy greatestCall = []
+lentBy (writeCall room) = []
+lentBy (openCall sheet os) = os
+
+outletWords : List Outlet → List ℕ
+outletWords [] = []
+outletWords (o ∷ os) = o .cell ∷ o .want ∷ o .drawn ∷ o .water ∷ o .mass ∷ outletWords os
+
+-- its count, its outlets, and zeros up to the 32nd
+lentWords : List Outlet → List ℕ
+lentWords os = length os ∷ (outletWords os ++ replicate (160 - 5 * length os) 0)
+
+oneOf : (start : ℕ) → Entry → List ℕ
+oneOf start e = callWords start (e .call) ++ (e .free .wants ++ lentWords (lentBy (e .call)))
 
 roomBy : Call → ℕ
 roomBy (stepCall t) = 0
@@ -45,14 +69,14 @@ roomBy transportCall = 0
 roomBy (boundariesCall es) = 0
 roomBy greatestCall = 0
 roomBy (writeCall room) = room
-roomBy (openCall sheet) = 0
+roomBy (openCall sheet os) = 0
 
-abbrev entry : Call → Entry
-entry c = record { free = record {}; call = c }
+abbrev entry : List ℕ → Call → Entry
+entry ws c = record { free = record { wants = ws }; call = c }
 
 wordsOf : (start : ℕ) → List Entry → List ℕ
 wordsOf start [] = []
-wordsOf start (e ∷ es) = oneOf start (e .call) ++ wordsOf (start + length (sheetPart (e .call))) es
+wordsOf start (e ∷ es) = oneOf start e ++ wordsOf (start + length (sheetPart (e .call))) es
 
 sheetsOf : List Entry → List ℕ
 sheetsOf [] = []
@@ -72,21 +96,47 @@ ten-length (e ∷ []) = refl
 ten-length (e ∷ f ∷ []) = refl
 ten-length (e ∷ f ∷ g ∷ es) = refl
 
-one-length : (start : ℕ) (c : Call) → length (oneOf start c) ≡ 13
-unfolding oneOf tenOf
-one-length start (stepCall t) = refl
-one-length start transportCall = refl
-one-length start (boundariesCall es) = ap (λ (n : ℕ). suc (suc (suc n))) (ten-length es)
-one-length start greatestCall = refl
-one-length start (writeCall room) = refl
-one-length start (openCall sheet) = refl
+call-length : (start : ℕ) (c : Call) → length (callWords start c) ≡ 13
+unfolding callWords tenOf
+call-length start (stepCall t) = refl
+call-length start transportCall = refl
+call-length start (boundariesCall es) = ap (λ (n : ℕ). suc (suc (suc n))) (ten-length es)
+call-length start greatestCall = refl
+call-length start (writeCall room) = refl
+call-length start (openCall sheet os) = refl
 
-words-length : (start : ℕ) (es : List Entry) → length (wordsOf start es) ≡ 13 * length es
-unfolding wordsOf
-words-length start [] = refl
-words-length start (e ∷ es) =
+outlet-words-length : (os : List Outlet) → length (outletWords os) ≡ 5 * length os
+unfolding outletWords
+outlet-words-length [] = refl
+outlet-words-length (o ∷ os) = omega (arith, outlet-words-length os)
+
+lent-length : (os : List Outlet) → length os ≤ outletsMost → length (lentWords os) ≡ 161
+unfolding lentWords
+lent-length os few =
+    ap suc (length-append (outletWords os) (replicate (160 - 5 * length os) 0))
+    ∙ omega (arith, few, outlet-words-length os, length-replicate {A = ℕ} (160 - 5 * length os) 0)
+
+few-lent : (c : Call) → Given c → length (lentBy c) ≤ outletsMost
+unfolding lentBy
+few-lent (stepCall t) g = omega arith
+few-lent transportCall g = omega arith
+few-lent (boundariesCall es) g = omega arith
+few-lent greatestCall g = omega arith
+few-lent (writeCall room) g = omega arith
+few-lent (openCall sheet os) g = g .1
+
+one-length : (start : ℕ) (e : Entry) → EntryGiven e → length (oneOf start e) ≡ 206
+unfolding oneOf
+one-length start e g =
+    length-append (callWords start (e .call)) (e .free .wants ++ lentWords (lentBy (e .call)))
+    ∙ omega (arith, call-length start (e .call), length-append (e .free .wants) (lentWords (lentBy (e .call))), g .0, lent-length (lentBy (e .call)) (few-lent (e .call) (g .2)))
+
+words-length : (start : ℕ) (es : List Entry) → Each EntryGiven es → length (wordsOf start es) ≡ 206 * length es
+unfolding wordsOf Each
+words-length start [] g = refl
+words-length start (e ∷ es) g =
     let at = start + length (sheetPart (e .call)) in
-    length-append (oneOf start (e .call)) (wordsOf at es) ∙ omega (arith, one-length start (e .call), words-length at es)
+    length-append (oneOf start e) (wordsOf at es) ∙ omega (arith, one-length start e (g .0), words-length at es (g .1))
 
 -- ---- what stands behind other words is read as if it stood alone
 
@@ -104,6 +154,27 @@ boundary-past p q n k e =
       word-past p q (n + 4) (k + 4) (omega arith),
     )
 
+wants-past : (p q : List ℕ) (n k : ℕ) → k ≡ length p + n → wantsFrom (p ++ q) k ≡ wantsFrom q n
+unfolding wantsFrom
+wants-past p q n k e = tabulate-same outletsMost (λ i. getD (p ++ q) (k + i) 0) (λ i. getD q (n + i) 0) (λ i l. word-past p q (n + i) (k + i) (omega (arith, e)))
+
+outlet-past : (p q : List ℕ) (n k : ℕ) → k ≡ length p + n → outletFrom (p ++ q) k ≡ outletFrom q n
+unfolding outletFrom
+outlet-past p q n k e =
+    simp (
+      word-past p q n k e,
+      word-past p q (n + 1) (k + 1) (omega arith),
+      word-past p q (n + 2) (k + 2) (omega arith),
+      word-past p q (n + 3) (k + 3) (omega arith),
+      word-past p q (n + 4) (k + 4) (omega arith),
+    )
+
+outlets-past : (p q : List ℕ) (n k : ℕ) → k ≡ length p + n → outletsFrom (p ++ q) k ≡ outletsFrom q n
+unfolding outletsFrom
+outlets-past p q n k e =
+    ap (λ (m : ℕ). tabulate m (λ i. outletFrom (p ++ q) (k + 1 + 5 * i))) (word-past p q n k e)
+    ∙ tabulate-same (getD q n 0) (λ i. outletFrom (p ++ q) (k + 1 + 5 * i)) (λ i. outletFrom q (n + 1 + 5 * i)) (λ i l. outlet-past p q (n + 1 + 5 * i) (k + 1 + 5 * i) (omega (arith, e)))
+
 call-past : (p q sheets : List ℕ) (room n k : ℕ) → k ≡ length p + n → callAt (p ++ q) sheets room k ≡ callAt q sheets room n
 unfolding callAt
 call-past p q sheets room n k e =
@@ -113,14 +184,17 @@ call-past p q sheets room n k e =
       word-past p q (n + 2) (k + 2) (omega arith),
       boundary-past p q (n + 3) (k + 3) (omega arith),
       boundary-past p q (n + 8) (k + 8) (omega arith),
+      outlets-past p q (n + 45) (k + 45) (omega arith),
     )
 
 -- one entry's words past
-entries-past : (p q sheets : List ℕ) (room j k : ℕ) → length p ≡ 13 → entriesFrom (p ++ q) sheets room (suc j) k ≡ entriesFrom q sheets room j k
+entries-past : (p q sheets : List ℕ) (room j k : ℕ) → length p ≡ 206 → entriesFrom (p ++ q) sheets room (suc j) k ≡ entriesFrom q sheets room j k
 unfolding entriesFrom
 entries-past p q sheets room j zero e = refl
 entries-past p q sheets room j (suc k) e =
-    ap₂ (λ (c : Call) (es : List Entry). entry c ∷ es) (call-past p q sheets room (13 * j) (13 * suc j) (omega arith))
+    let wants = wants-past p q (206 * j + 13) (206 * suc j + 13) (omega arith) in
+    let call = call-past p q sheets room (206 * j) (206 * suc j) (omega arith) in
+    ap₂ (λ (c : Entry) (es : List Entry). c ∷ es) (ap₂ entry wants call)
     (entries-past p q sheets room (suc j) k e)
 
 -- ---- one call read back
@@ -160,15 +234,64 @@ part-back front s tail sheets e =
     let b : min (length front + length s) (length sheets) - length front ≡ length s = omega arith in
     rw (a, b, e, drop-append-seam front (s ++ tail)) (take-append-seam s tail)
 
-one-back : (c : Call) (start : ℕ) (front tail sheets q : List ℕ) (room : ℕ) → Given c → length front ≡ start
-    → sheets ≡ front ++ (sheetPart c ++ tail) → roomBy c ≤ room → callAt (oneOf start c ++ q) sheets room 0 ≡ c
-unfolding callAt oneOf tenOf roomBy
-one-back (stepCall t) start front tail sheets q room g e s r = refl
-one-back transportCall start front tail sheets q room g e s r = refl
-one-back (boundariesCall es) start front tail sheets q room g e s r = boundaries-back es q sheets room (g .0) (g .1)
-one-back greatestCall start front tail sheets q room g e s r = refl
-one-back (writeCall n) start front tail sheets q room g e s r = ap writeCall (omega arith)
-one-back (openCall sheet) start front tail sheets q room g e s r = ap openCall (rw (← e) (part-back front sheet tail sheets s))
+wants-back : (p ws q : List ℕ) → length ws ≡ outletsMost → wantsFrom (p ++ (ws ++ q)) (length p) ≡ ws
+unfolding wantsFrom
+wants-back p ws q e =
+    sym (by-index outletsMost (λ k. getD (p ++ (ws ++ q)) (length p + k) 0) 0 ws e (λ k l.
+    sym (getD-append-add p (ws ++ q) k 0 ∙ List·getD-append ws q 0 k (omega (arith, e, l)))))
+
+first-back : (o : Outlet) (q : List ℕ) → outletFrom (o .cell ∷ o .want ∷ o .drawn ∷ o .water ∷ o .mass ∷ q) (5 * 0) ≡ o
+unfolding outletFrom
+first-back o q = refl
+
+outlet-back : (os : List Outlet) (q : List ℕ) (k : ℕ) → k < length os → outletFrom (outletWords os ++ q) (5 * k) ≡ getD os k noOutlet
+unfolding outletWords
+outlet-back [] q k l = absurd (omega arith)
+outlet-back (o ∷ os) q zero l = first-back o (outletWords os ++ q)
+outlet-back (o ∷ os) q (suc k) l =
+    outlet-past (o .cell ∷ o .want ∷ o .drawn ∷ o .water ∷ o .mass ∷ []) (outletWords os ++ q) (5 * k) (5 * suc k) (omega arith)
+    ∙ outlet-back os q k (omega arith)
+
+list-back : (os : List Outlet) (z q : List ℕ) → outletsFrom (length os ∷ ((outletWords os ++ z) ++ q)) 0 ≡ os
+unfolding outletsFrom
+list-back os z q =
+    sym (by-index (length os) (λ k. outletFrom (length os ∷ ((outletWords os ++ z) ++ q)) (0 + 1 + 5 * k)) noOutlet os refl (λ k l.
+    sym (outlet-past (length os ∷ []) ((outletWords os ++ z) ++ q) (5 * k) (0 + 1 + 5 * k) (omega arith)
+    ∙ ap (λ (x : List ℕ). outletFrom x (5 * k)) (append-assoc (outletWords os) z q)
+    ∙ outlet-back os (z ++ q) k l)))
+
+outlets-back : (os : List Outlet) (p q : List ℕ) (at : ℕ) → length p ≡ at → outletsFrom (p ++ (lentWords os ++ q)) at ≡ os
+unfolding lentWords
+outlets-back os p q at e =
+    let z : List ℕ = replicate (160 - 5 * length os) 0 in
+    outlets-past p (length os ∷ ((outletWords os ++ z) ++ q)) 0 at (omega arith) ∙ list-back os z q
+
+-- whatever stands behind the thirteen
+call-back : (c : Call) (start : ℕ) (front tail sheets q : List ℕ) (room : ℕ) → Given c → length front ≡ start
+    → sheets ≡ front ++ (sheetPart c ++ tail) → roomBy c ≤ room → outletsFrom (callWords start c ++ q) 45 ≡ lentBy c → callAt (callWords start c ++ q) sheets room 0 ≡ c
+unfolding callAt callWords tenOf roomBy lentBy
+call-back (stepCall t) start front tail sheets q room g e s r o = refl
+call-back transportCall start front tail sheets q room g e s r o = refl
+call-back (boundariesCall es) start front tail sheets q room g e s r o = boundaries-back es q sheets room (g .0) (g .1)
+call-back greatestCall start front tail sheets q room g e s r o = refl
+call-back (writeCall n) start front tail sheets q room g e s r o = ap writeCall (omega arith)
+call-back (openCall sheet os) start front tail sheets q room g e s r o = ap₂ openCall (rw (← e) (part-back front sheet tail sheets s)) o
+
+entry-back : (e : Entry) (start : ℕ) (front tail sheets q : List ℕ) (room : ℕ) → EntryGiven e → length front ≡ start
+    → sheets ≡ front ++ (sheetPart (e .call) ++ tail) → roomBy (e .call) ≤ room → entryAt (oneOf start e ++ q) sheets room 0 ≡ e
+unfolding oneOf
+entry-back e start front tail sheets q room g l s r =
+    let c = e .call in
+    let ws = e .free .wants in
+    let head = callWords start c in
+    let list = lentWords (lentBy c) in
+    let n : length head ≡ 13 = call-length start c in
+    let m : length (head ++ ws) ≡ 45 = length-append head ws ∙ omega (arith, n, g .0) in
+    let whole : (head ++ (ws ++ list)) ++ q ≡ head ++ (ws ++ (list ++ q)) = append-assoc head (ws ++ list) q ∙ ap (λ (x : List ℕ). head ++ x) (append-assoc ws list q) in
+    let wants : wantsFrom (head ++ (ws ++ (list ++ q))) 13 ≡ ws = ap (λ (k : ℕ). wantsFrom (head ++ (ws ++ (list ++ q))) k) (sym n) ∙ wants-back head ws (list ++ q) (g .0) in
+    let lent : outletsFrom (head ++ (ws ++ (list ++ q))) 45 ≡ lentBy c = ap (λ (x : List ℕ). outletsFrom x 45) (sym (append-assoc head ws (list ++ q))) ∙ outlets-back (lentBy c) (head ++ ws) q 45 m in
+    let call : callAt (head ++ (ws ++ (list ++ q))) sheets room 0 ≡ c = call-back c start front tail sheets (ws ++ (list ++ q)) room (g .2) l s r lent in
+    ap (λ (x : List ℕ). entryAt x sheets room 0) whole ∙ ap₂ entry wants call
 
 -- ---- the list read back
 
@@ -180,15 +303,15 @@ entries-back (e ∷ es) start front sheets room g l s r =
     let c = e .call in
     let at = start + length (sheetPart c) in
     let n : length (front ++ sheetPart c) ≡ at = length-append front (sheetPart c) ∙ omega arith in
-    ap₂ (λ (x : Call) (xs : List Entry). entry x ∷ xs)
-    (one-back c start front (sheetsOf es) sheets (wordsOf at es) room (g .0) l s (omega arith))
-    (entries-past (oneOf start c) (wordsOf at es) sheets room 0 (length es) (one-length start c)
+    ap₂ (λ (x : Entry) (xs : List Entry). x ∷ xs)
+    (entry-back e start front (sheetsOf es) sheets (wordsOf at es) room (g .0) l s (omega arith))
+    (entries-past (oneOf start e) (wordsOf at es) sheets room 0 (length es) (one-length start e (g .0))
     ∙ entries-back es at (front ++ sheetPart c) sheets room (g .1) n (rw append-assoc s) (omega arith))
 
 script-back : (es : List Entry) → Each EntryGiven es → script (wordsOf 0 es) (sheetsOf es) (roomOf es) ≡ es
 unfolding script
 script-back es g =
-    let n : length (wordsOf 0 es) / 13 ≡ length es = omega (arith, words-length 0 es) in
+    let n : length (wordsOf 0 es) / 206 ≡ length es = omega (arith, words-length 0 es g) in
     rw n (entries-back es 0 [] (sheetsOf es) (roomOf es) g refl refl (omega arith))
 
 -- ---- and it fits
@@ -233,14 +356,44 @@ ten-fit (e ∷ f ∷ []) n s =
     )
 ten-fit (e ∷ f ∷ g ∷ es) n s = absurd (omega arith)
 
-one-fit : (start : ℕ) (c : Call) → Given c → Word (start + length (sheetPart c)) → Each Word (oneOf start c)
-unfolding Each oneOf sheetPart
-one-fit start (stepCall t) g l = (omega arith, (g, (omega arith, zeros-fit)))
-one-fit start transportCall g l = (omega arith, (omega arith, (omega arith, zeros-fit)))
-one-fit start (boundariesCall es) g l = (omega arith, (omega arith, (omega arith, ten-fit es (g .0) (g .1))))
-one-fit start greatestCall g l = (omega arith, (omega arith, (omega arith, zeros-fit)))
-one-fit start (writeCall room) g l = (omega arith, (g, (omega arith, zeros-fit)))
-one-fit start (openCall sheet) g l = (omega arith, (omega arith, (l, zeros-fit)))
+call-fit : (start : ℕ) (c : Call) → Given c → Word (start + length (sheetPart c)) → Each Word (callWords start c)
+unfolding Each callWords
+call-fit start (stepCall t) g l = (omega arith, (g, (omega arith, zeros-fit)))
+call-fit start transportCall g l = (omega arith, (omega arith, (omega arith, zeros-fit)))
+call-fit start (boundariesCall es) g l = (omega arith, (omega arith, (omega arith, ten-fit es (g .0) (g .1))))
+call-fit start greatestCall g l = (omega arith, (omega arith, (omega arith, zeros-fit)))
+call-fit start (writeCall room) g l = (omega arith, (g, (omega arith, zeros-fit)))
+call-fit start (openCall sheet os) g l = (omega arith, (omega arith, (l, zeros-fit)))
+
+rest-fit : (n : ℕ) → Each Word (replicate n 0)
+unfolding Each
+rest-fit zero = tt
+rest-fit (suc n) = (omega arith, rest-fit n)
+
+outlets-fit : (os : List Outlet) → Each StoredOutlet os → Each Word (outletWords os)
+unfolding Each outletWords
+outlets-fit [] g = tt
+outlets-fit (o ∷ os) g = let a = g .0 in (a .cell, (a .want, (a .drawn, (a .water, (a .mass, outlets-fit os (g .1))))))
+
+lent-stored : (c : Call) → Given c → Each StoredOutlet (lentBy c)
+unfolding Each lentBy
+lent-stored (stepCall t) g = tt
+lent-stored transportCall g = tt
+lent-stored (boundariesCall es) g = tt
+lent-stored greatestCall g = tt
+lent-stored (writeCall room) g = tt
+lent-stored (openCall sheet os) g = g .2
+
+lent-fit : (os : List Outlet) → length os ≤ outletsMost → Each StoredOutlet os → Each Word (lentWords os)
+unfolding Each lentWords
+lent-fit os few g = (omega (arith, few), each-append Word (outletWords os) (replicate (160 - 5 * length os) 0) (outlets-fit os g) (rest-fit (160 - 5 * length os)))
+
+one-fit : (start : ℕ) (e : Entry) → EntryGiven e → Word (start + length (sheetPart (e .call))) → Each Word (oneOf start e)
+unfolding oneOf
+one-fit start e g l =
+    let c = e .call in
+    each-append Word (callWords start c) (e .free .wants ++ lentWords (lentBy c)) (call-fit start c (g .2) l)
+    (each-append Word (e .free .wants) (lentWords (lentBy c)) (g .1) (lent-fit (lentBy c) (few-lent c (g .2)) (lent-stored c (g .2))))
 
 words-fit : (start : ℕ) (es : List Entry) → Each EntryGiven es → Word (start + sheetsSize es) → Each Word (wordsOf start es)
 unfolding Each wordsOf sheetsSize
@@ -248,7 +401,7 @@ words-fit start [] g l = tt
 words-fit start (e ∷ es) g l =
     let c = e .call in
     let at = start + length (sheetPart c) in
-    each-append Word (oneOf start c) (wordsOf at es) (one-fit start c (g .0) (omega arith)) (words-fit at es (g .1) (omega arith))
+    each-append Word (oneOf start e) (wordsOf at es) (one-fit start e (g .0) (omega arith)) (words-fit at es (g .1) (omega arith))
 
 sheet-fit : (c : Call) → Given c → Each Byte (sheetPart c)
 unfolding Each
@@ -257,12 +410,12 @@ sheet-fit transportCall g = tt
 sheet-fit (boundariesCall es) g = tt
 sheet-fit greatestCall g = tt
 sheet-fit (writeCall room) g = tt
-sheet-fit (openCall sheet) g = g
+sheet-fit (openCall sheet os) g = g .0
 
 sheets-fit : (es : List Entry) → Each EntryGiven es → Each Byte (sheetsOf es)
 unfolding Each sheetsOf
 sheets-fit [] g = tt
-sheets-fit (e ∷ es) g = each-append Byte (sheetPart (e .call)) (sheetsOf es) (sheet-fit (e .call) (g .0)) (sheets-fit es (g .1))
+sheets-fit (e ∷ es) g = each-append Byte (sheetPart (e .call)) (sheetsOf es) (sheet-fit (e .call) (g .0 .2)) (sheets-fit es (g .1))
 
 room-by-fits : (c : Call) → Given c → Word (roomBy c)
 unfolding roomBy
@@ -271,12 +424,12 @@ room-by-fits transportCall g = omega arith
 room-by-fits (boundariesCall es) g = omega arith
 room-by-fits greatestCall g = omega arith
 room-by-fits (writeCall room) g = g
-room-by-fits (openCall sheet) g = omega arith
+room-by-fits (openCall sheet os) g = omega arith
 
 room-fits : (es : List Entry) → Each EntryGiven es → Word (roomOf es)
 unfolding Each roomOf
 room-fits [] g = omega arith
-room-fits (e ∷ es) g = omega (arith, room-by-fits (e .call) (g .0), room-fits es (g .1))
+room-fits (e ∷ es) g = omega (arith, room-by-fits (e .call) (g .0 .2), room-fits es (g .1))
 
 sheets-length : (es : List Entry) → length (sheetsOf es) ≡ sheetsSize es
 unfolding sheetsOf sheetsSize
@@ -291,7 +444,7 @@ every-list es g l = record {
   words-fit = words-fit 0 es g (omega arith);
   sheets-fit = sheets-fit es g;
   room-fits = room-fits es g;
-  words-long = words-length 0 es;
+  words-long = words-length 0 es g;
   sheets-long = sheets-length es;
   read-back = script-back es g;
 }

@@ -1,9 +1,11 @@
 -- Every list of calls, of any length, stands in memory that is large enough for it. Not the paper's: a reader of the model may skip this file.
 use mathlib.Core.Path.{_≡_}
 use mathlib.Core.List.{List, [], _∷_}
-use Prim.Native.Nat.{ℕ, _+_, _*_, _<_}
+use Prim.Native.Nat.{ℕ, _+_, _*_, _≤_, _<_}
 use lib.IntN.{ℤ, pos, negsuc}
 use lib.ListN.{length}
+use Rattle.outlet.specs.Outlets.{outletsMost}
+use Rattle.outlet.specs.declared.Outlet.{Outlet}
 use Rattle.reach.specs.declared.boundary.Boundary.{Boundary}
 use Rattle.tally.specs.Call.{Call, Entry, stepCall, transportCall, boundariesCall, greatestCall, writeCall, openCall}
 use Rattle.tally.specs.Holds.{Each}
@@ -31,17 +33,26 @@ pub record Stored (e : Boundary) : Type 0 where
   pub concentration : Word (e .concentration)
   pub discharge : SignedWord (e .discharge)
 
--- free arguments as the calls can be given them
+-- and an outlet
+pub record StoredOutlet (o : Outlet) : Type 0 where
+  pub cell : Word (o .cell)
+  pub want : Word (o .want)
+  pub drawn : Word (o .drawn)
+  pub water : Word (o .water)
+  pub mass : Word (o .mass)
+
+-- free arguments as the calls can be given them; the list lent to an opening in between is one of 32 outlets at most
 abbrev pub Given : Call → Type 0
 Given (stepCall t) = Word t
 Given transportCall = Unit {0}
 Given (boundariesCall es) = (length es ≡ 2) × Each Stored es
 Given greatestCall = Unit {0}
 Given (writeCall room) = Word room
-Given (openCall sheet) = Each Byte sheet
+Given (openCall sheet os) = Each Byte sheet × (length os ≤ outletsMost) × Each StoredOutlet os
 
+-- a want for each of 32 outlets, as many as there can be: a call looks at no want behind its list
 abbrev pub EntryGiven : Entry → Type 0
-EntryGiven e = Given (e .call)
+EntryGiven e = (length (e .free .wants) ≡ outletsMost) × Each Word (e .free .wants) × Given (e .call)
 
 -- the bytes of all sheets of a list
 abbrev pub sheetPart : Call → List ℕ
@@ -50,7 +61,7 @@ sheetPart transportCall = []
 sheetPart (boundariesCall es) = []
 sheetPart greatestCall = []
 sheetPart (writeCall room) = []
-sheetPart (openCall sheet) = sheet
+sheetPart (openCall sheet os) = sheet
 
 unfoldable pub sheetsSize : List Entry → ℕ
 sheetsSize [] = 0

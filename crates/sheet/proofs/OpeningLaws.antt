@@ -1,29 +1,34 @@
 -- Laws of opening: what a passed ground tells, what the functions find is what the definitions say, what each outcome is, and that an opened
--- record stands grounds 4 to 9. Assumes nothing.
+-- record stands grounds 4 to 9 and 16. Assumes nothing.
 use mathlib.Core.Path.{_≡_, refl, sym, ap, _∙_}
-use mathlib.Core.Bool.{Bool, true, _&&_}
+use mathlib.Core.Bool.{Bool, true, false, cond, _&&_}
 use mathlib.Core.List.{List, [], _∷_}
 use Prim.Native.Nat.{ℕ, suc, _+_, _*_, _≤_, _<_}
 use native.Mathlib.Omega.{arith}
 use borrow.Author.Tests.{leb-true, eqb-true}
-use lib.Dec.{leb}
+use lib.Dec.{leb, eqb}
 use lib.IntN.{ℤ, pos, natAbs}
 use lib.ListN.{length, getD, replicate, getD-replicate, length-replicate}
-use Rattle.numbers.specs.Index.{allOf, allBelow, tabulate}
-use Rattle.numbers.proofs.IndexLaws.{and-left, and-right, all-of, all-same, length-tabulate, getD-tabulate}
+use Rattle.numbers.specs.Index.{allOf, allBelow, sum, tabulate}
+use Rattle.numbers.proofs.IndexLaws.{and-left, and-right, all-of, all-at, all-below, all-same, on, only, length-tabulate, getD-tabulate, sum-tabulate, sum-none}
+use Rattle.outlet.specs.Outlets.{outletsMost, outletAt, clearedOutlet, cleared, fromCell}
+use Rattle.outlet.specs.declared.Outlet.{Outlet}
+use Rattle.outlet.specs.declared.Outlets.{Outlets}
+use Rattle.outlet.proofs.ClearingLaws.{cleared-at, cleared-count}
 use Rattle.reach.specs.Limits.{cellsMost}
 use Rattle.reach.specs.Reach.{Reach, reachOf}
-use Rattle.reach.specs.Grounds.{ground, firstRefusal, cellLengthFits, boundariesFit, cellFits, cellsFit, totalsFit, ledgerFits, recordGrounds}
+use Rattle.reach.specs.Grounds.{ground, firstRefusal, cellLengthFits, boundariesFit, cellFits, cellsFit, outletFits, outletsFit, totalsFit, ledgerFits, outletTotalsFit, allTotalsFit, recordGrounds}
+use Rattle.reach.specs.Parts.{drawnFrom}
 use Rattle.reach.specs.Outcome.{Outcome, outcome}
 use Rattle.reach.specs.declared.boundary.Boundary.{Boundary}
 use Rattle.reach.specs.declared.refusal.Check.{Check}
 use Rattle.reach.specs.declared.refusal.Check.the-variants.{Pass, Refused}
 use Rattle.reach.proofs.GroundsLaws.{stood, numbered, refused-number}
-use Rattle.reach.proofs.Sound.{Sound, stands, CarriedSound, none-carried, boundary-sound, cells-sound}
+use Rattle.reach.proofs.Sound.{Sound, stands, CarriedSound, none-carried, boundary-sound, cells-sound, outlets-few}
 use Rattle.encoding.specs.FromBytes.{numberAt, twos, columnAt}
 use Rattle.sheet.specs.Header.{headerSize, sheetSize, countOf, bedsAt, depthsAt, dischargesAt, massesAt, editionFits, sizeFits, Span, inside, apartFrom, columnsClear, spansOf}
 use Rattle.sheet.specs.Ranges.{LayoutOf, Within, cellAt}
-use Rattle.sheet.specs.Opening.{emptyLedger, sheetRecord, lent, lentFit, openGrounds, opening, unopenedBy, OpenCameTo}
+use Rattle.sheet.specs.Opening.{emptyLedger, heldOf, sheetRecord, lent, lentFit, openGrounds, opening, unopenedBy, OpenCameTo}
 use Rattle.sheet.specs.declared.header.Layout.{Layout}
 use Rattle.sheet.specs.declared.opening.OpenAnswer.{OpenAnswer}
 
@@ -36,10 +41,10 @@ pub cell-at-is : (s : List ℕ) (l : Layout) (i : ℕ) {z : ℤ} {h : ℕ} {q : 
 unfolding cellAt
 cell-at-is s l i a b c d = rw (a, b, c, d) refl
 
-pub values-are : (s : List ℕ) (l : Layout) → LayoutOf s l → allBelow (countOf s) (cellAt s l)
-    ≡ cellsFit (sheetRecord s .bed) (sheetRecord s .depth) (sheetRecord s .discharge) (sheetRecord s .mass) (sheetRecord s .base)
+pub values-are : (s : List ℕ) (os : Outlets) (l : Layout) → LayoutOf s l →
+    let r = sheetRecord s os in allBelow (countOf s) (cellAt s l) ≡ cellsFit (r .bed) (r .depth) (r .discharge) (r .mass) (r .base)
 unfolding cellsFit sheetRecord columnAt cellAt
-values-are s l k =
+values-are s os l k =
     let n = countOf s in
     rw (length-tabulate n (λ i. twos 4 (numberAt 4 s (bedsAt s + 4 * i))))
     (all-same _ _ n (λ i j.
@@ -120,14 +125,14 @@ lent-are n z h q m b c e =
 -- ---- what each outcome is
 
 all-numbered : (s : List ℕ) (l : Reach)
-    → numbered (openGrounds s (length (l .bed)) (length (l .depth)) (length (l .discharge)) (length (l .mass)) (length (l .base)) (length (l .carried))) ≡ true
+    → numbered (openGrounds s (length (l .bed)) (length (l .depth)) (length (l .discharge)) (length (l .mass)) (length (l .base)) (length (l .carried)) (l .held .outlets)) ≡ true
 unfolding numbered
 all-numbered s l = refl
 
 module _ (s : List ℕ) (l : Reach) where
-  -- what grounds 1 to 7 say of the sheet and of columns as long as those of l
+  -- what grounds 1 to 7 and 16 say of the sheet, of columns as long as those of l and of the outlets of l
   abbrev pub check : Check
-  check = firstRefusal (openGrounds s (length (l .bed)) (length (l .depth)) (length (l .discharge)) (length (l .mass)) (length (l .base)) (length (l .carried)))
+  check = firstRefusal (openGrounds s (length (l .bed)) (length (l .depth)) (length (l .discharge)) (length (l .mass)) (length (l .base)) (length (l .carried)) (l .held .outlets))
 
   -- every statement about it, by the two ways it can go
   pub by-opening : (P : Check → Type 0) → ((n : ℕ) → 0 < n → P (Refused n)) → (check ≡ Pass → P Pass) → P check
@@ -139,18 +144,19 @@ module _ (s : List ℕ) (l : Reach) where
 
   pub opened-passes : opening s l .refusal ≡ 0 → check ≡ Pass
   unfolding opening
-  opened-passes = by-opening (λ k. outcome k l (sheetRecord s) .refusal ≡ 0 → k ≡ Pass) (λ n p z. absurd (omega arith)) (λ e z. refl)
+  opened-passes = by-opening (λ k. outcome k l (sheetRecord s (l .held .outlets)) .refusal ≡ 0 → k ≡ Pass) (λ n p z. absurd (omega arith)) (λ e z. refl)
 
   pub stopped : (n : ℕ) → check ≡ Refused n → opening s l ≡ record { refusal = n; reach = l }
   unfolding opening
-  stopped n e = ap (λ (k : Check). outcome k l (sheetRecord s)) e
+  stopped n e = ap (λ (k : Check). outcome k l (sheetRecord s (l .held .outlets))) e
 
-  pub accepted : check ≡ Pass → opening s l ≡ record { refusal = 0; reach = sheetRecord s }
+  pub accepted : check ≡ Pass → opening s l ≡ record { refusal = 0; reach = sheetRecord s (l .held .outlets) }
   unfolding opening
-  accepted e = ap (λ (k : Check). outcome k l (sheetRecord s)) e
+  accepted e = ap (λ (k : Check). outcome k l (sheetRecord s (l .held .outlets))) e
 
-  -- a refused opening leaves the lent columns as they came
-  pub stayed : (n : ℕ) {r : OpenAnswer} → l ≡ lent (l .bed) (l .depth) (l .discharge) (l .mass) (l .base) (l .carried) → check ≡ Refused n → r ≡ unopenedBy n
+  -- a refused opening leaves the lent columns and outlets as they came
+  pub stayed : (n : ℕ) {r : OpenAnswer} → l ≡ lent (l .bed) (l .depth) (l .discharge) (l .mass) (l .base) (l .carried) (l .held .outlets) → check ≡ Refused n
+      → r ≡ unopenedBy n (l .held .outlets)
       → OpenCameTo (opening s l) r (l .bed) (l .depth) (l .discharge) (l .mass) (l .base) (l .carried)
   stayed n {r} k e f =
       let o = stopped n e in
@@ -166,22 +172,57 @@ module _ (s : List ℕ) (l : Reach) where
         carried-is = refl;
       })
 
--- ---- an opened record stands grounds 4 to 9
+-- ---- outlets that an opening has cleared
+
+module _ (os : Outlets) (few : os .count ≤ outletsMost) where
+  -- where they stood ground 16 they still stand it
+  cleared-fits : (n : ℕ) → outletsFit n os ≡ true → outletsFit n (cleared os) ≡ true
+  unfolding outletsFit outletFits
+  cleared-fits n e =
+      let t = all-of _ e in
+      rw (cleared-count os)
+      (on _ _ (t 0) (only _ ∙ all-below _ (os .count) (λ k l. ap (outletFits n) (cleared-at os few k l) ∙ all-at _ (os .count) k (t 1) l)))
+
+  -- nothing is drawn of any cell
+  cleared-drawn : (i : ℕ) → sum (drawnFrom (cleared os) i) ≡ 0
+  unfolding fromCell
+  cleared-drawn i =
+      let from : Outlet → ℕ = λ o. cond (eqb (o .cell) i) (o .drawn) 0 in
+      sum-tabulate (cleared os .count) (λ k. from (outletAt (cleared os) k))
+      ∙ sum-none (cleared os .count) (λ k. from (outletAt (cleared os) k)) (λ k l. ap from (cleared-at os few k (rw (cleared-count os) at l)) ∙ none (eqb (outletAt os k .cell) i))
+    where
+      none : (b : Bool) → _≡_ {A = ℕ} (cond b 0 0) 0
+      none true = refl
+      none false = refl
+
+  -- and no total exceeds its limit
+  cleared-totals : allBelow (cleared os .count) (λ k. outletTotalsFit (outletAt (cleared os) k)) ≡ true
+  unfolding outletTotalsFit allOf
+  cleared-totals = rw (cleared-count os) (all-below _ (os .count) (λ k l. ap outletTotalsFit (cleared-at os few k l)))
+
+-- ---- an opened record stands grounds 4 to 9 and 16
 
 empty-fits : ledgerFits emptyLedger ≡ true
 unfolding ledgerFits totalsFit allOf
 empty-fits = refl
 
-module _ (s : List ℕ) (z h q m b c : ℕ) (e : firstRefusal (openGrounds s z h q m b c) ≡ Pass) where
-  ground-at : (k : ℕ) → getD (openGrounds s z h q m b c) k (ground 0 true) .stands ≡ true
-  ground-at = stood (openGrounds s z h q m b c) e
+opened-totals : (s : List ℕ) (os : Outlets) → os .count ≤ outletsMost → allTotalsFit (heldOf s os) ≡ true
+unfolding allTotalsFit
+opened-totals s os few = on _ _ empty-fits (only _ ∙ cleared-totals os few)
 
-  still : (d k n : ℕ) → k < n → CarriedSound d d (getD (replicate (n + 1) (pos 0)) k (pos 0)) (getD (replicate (n + 1) (pos 0)) (k + 1) (pos 0))
+module _ (s : List ℕ) (z h q m b c : ℕ) (os : Outlets) (e : firstRefusal (openGrounds s z h q m b c os) ≡ Pass) where
+  ground-at : (k : ℕ) → getD (openGrounds s z h q m b c os) k (ground 0 true) .stands ≡ true
+  ground-at = stood (openGrounds s z h q m b c os) e
+
+  outlets-count : os .count ≤ outletsMost
+  outlets-count = outlets-few (countOf s) os (ground-at 7)
+
+  still : (d k n : ℕ) → k < n → CarriedSound d d (getD (replicate (n + 1) (pos 0)) k (pos 0)) (getD (replicate (n + 1) (pos 0)) (k + 1) (pos 0)) (drawnFrom (cleared os) k)
   still d k n l =
       rw (getD-replicate (n + 1) k (pos 0) (pos 0) (omega arith), getD-replicate (n + 1) (k + 1) (pos 0) (pos 0) (omega arith))
-      (none-carried d)
+      (none-carried d (drawnFrom (cleared os) k) (cleared-drawn os outlets-count k))
 
-  pub opened-sound : Sound (sheetRecord s)
+  pub opened-sound : Sound (sheetRecord s os)
   unfolding sheetRecord columnAt cellLengthFits boundariesFit
   opened-sound =
       let n = countOf s in
@@ -205,16 +246,17 @@ module _ (s : List ℕ) (z h q m b c : ℕ) (e : firstRefusal (openGrounds s z h
         water = λ i j. still (getD (tabulate n (λ k. numberAt 4 s (depthsAt s + 4 * k))) i 0) i n (omega (arith, beds));
         shutLeft = λ w. getD-replicate (n + 1) 0 (pos 0) (pos 0) (omega arith);
         shutRight = λ w. getD-replicate (n + 1) _ (pos 0) (pos 0) (omega (arith, beds));
-        ledger = empty-fits;
+        outlets = rw beds (cleared-fits os outlets-count n (ground-at 7));
+        totals = opened-totals s os outlets-count;
       }
 
 pub opened-stands : (s : List ℕ) (l : Reach) (gs : List Boundary) → opening s l .refusal ≡ 0 → boundariesFit gs ≡ true
     → firstRefusal (recordGrounds (opening s l .reach) gs) ≡ Pass
 opened-stands s l gs e g =
     let p = opened-passes s l e in
-    rw (accepted s l p) (stands (sheetRecord s) gs (opened-sound s _ _ _ _ _ _ p) g)
+    rw (accepted s l p) (stands (sheetRecord s (l .held .outlets)) gs (opened-sound s _ _ _ _ _ _ (l .held .outlets) p) g)
 
--- the record that an opening left in the columns, with X, boundaries and ledger of its answer
+-- the record that an opening left in the columns, with X, boundaries, ledger and outlets of its answer
 pub left-by-opening : {o : Outcome} {r : OpenAnswer} {z : List ℤ} {h : List ℕ} {q : List ℤ} {m b : List ℕ} {c : List ℤ} → OpenCameTo o r z h q m b c
     → reachOf z h q m b c (r .«cell_length») (r .held) ≡ o .reach
 left-by-opening {o} k =

@@ -1,9 +1,10 @@
-// Opening a sheet: grounds 1 to 7 in checking order, all of them before the first write.
+// Opening a sheet: grounds 1 to 7 and 16 in checking order, all of them before the first write.
 ghost use mathlib.Core.Path.{_≡_};
 ghost use Prim.Native.Nat.{_+_, _*_, _≤_, _<_};
 ghost use lib.IntN.{pos};
 ghost use lib.ListN.{length, replicate};
 ghost use Rattle.numbers.specs.Index.{allBelow};
+ghost use Rattle.outlet.specs.Outlets.{outletsMost};
 ghost use Rattle.reach.specs.Grounds.{firstRefusal, numberOf, passOr};
 ghost use Rattle.encoding.specs.FromBytes.{twos, columnAt};
 ghost use Rattle.reach.specs.Reach.{came, noBoundary};
@@ -26,6 +27,8 @@ use encoding::reading::read_signed;
 use encoding::reading::read_signed_column;
 use numbers::columns::clear_column;
 use numbers::columns::copy_column;
+use outlet::Outlets;
+use outlet::clearing::clear;
 use reach::boundary::Boundary;
 use reach::boundary::check_boundaries;
 use reach::cells::cell_fits;
@@ -33,10 +36,11 @@ use reach::cells::check_cell_length;
 use reach::held::Held;
 use reach::ledger::Ledger;
 use reach::ledger::Totals;
+use reach::outlets::check_outlets;
 use reach::refusal::Check;
 
-// What an opening hands back: 0 or the number of its refusal, X in mm, both boundaries, and an empty ledger. Of a refused opening all but the
-// number is 0.
+// What an opening hands back: 0 or the number of its refusal, X in mm, both boundaries, an empty ledger, and the outlets that it was lent, cleared.
+// Of a refused opening the outlets are as they were lent, and all else but the number is 0.
 #[repr(C)]
 pub struct OpenAnswer {
     pub refusal: u32,
@@ -108,7 +112,7 @@ fn check_values(s: &[u8], l: Layout, n: usize) -> Check
     Check::Pass
 }
 
-// Grounds 1 to 7, of a sheet and the lengths of the lent columns
+// Grounds 1 to 7 and 16, of a sheet, the lengths of the lent columns and the outlets
 fn check_opening(
     s: &[u8],
     bed: usize,
@@ -117,8 +121,9 @@ fn check_opening(
     mass: usize,
     base: usize,
     carried: usize,
+    outlets: Outlets,
 ) -> Check
-    ensures { λ r. ⌜ r ≡ firstRefusal (openGrounds (now (s .entry)) bed depth discharge mass base carried) ⌝ }
+    ensures { λ r. ⌜ r ≡ firstRefusal (openGrounds (now (s .entry)) bed depth discharge mass base carried outlets) ⌝ }
 {
     let Check::Pass = check_edition(s) else {
         return Check::Refused(1);
@@ -141,6 +146,9 @@ fn check_opening(
     };
     let Check::Pass = check_values(s, layout_of(s), n) else {
         return Check::Refused(7);
+    };
+    let Check::Pass = check_outlets(n, outlets) else {
+        return Check::Refused(16);
     };
     Check::Pass
 }
@@ -200,20 +208,24 @@ fn empty_ledger() -> Ledger
     }
 }
 
-// An opening is given no boundaries and no ledger
-fn none_held() -> Held
-    ensures { λ r. ⌜ r ≡ noneHeld ⌝ }
+// An opening is given no boundaries and no ledger; its outlets are those that it is lent
+fn none_held(outlets: Outlets) -> Held
+    ensures { λ r. ⌜ r ≡ noneHeld outlets ⌝ }
 {
     let none = no_boundary();
     let boundaries = [none, none];
     let ledger = empty_ledger();
-    Held { boundaries, ledger }
+    Held {
+        boundaries,
+        ledger,
+        outlets,
+    }
 }
 
-fn unopened(k: Check) -> OpenAnswer
-    ensures { λ r. ⌜ r ≡ unopenedBy (numberOf k) ⌝ }
+fn unopened(k: Check, outlets: Outlets) -> OpenAnswer
+    ensures { λ r. ⌜ r ≡ unopenedBy (numberOf k) outlets ⌝ }
 {
-    let held = none_held();
+    let held = none_held(outlets);
     let Check::Refused(n) = k else {
         return OpenAnswer {
             refusal: 0,
@@ -228,17 +240,23 @@ fn unopened(k: Check) -> OpenAnswer
     }
 }
 
-// The sheet's boundaries and an empty ledger
-fn held_of(s: &[u8]) -> Held
+// The sheet's boundaries, an empty ledger, and the outlets that were lent, cleared
+fn held_of(s: &[u8], lent: Outlets) -> Held
     requires { ⌜ headerSize ≤ length (now s) ⌝ }
-    ensures { λ r. ⌜ r ≡ heldOf (now (s .entry)) ⌝ }
+    requires { ⌜ lent .count ≤ outletsMost ⌝ }
+    ensures { λ r. ⌜ r ≡ heldOf (now (s .entry)) lent ⌝ }
 {
     let boundaries = read_boundaries(s);
     let ledger = empty_ledger();
-    Held { boundaries, ledger }
+    let outlets = clear(lent);
+    Held {
+        boundaries,
+        ledger,
+        outlets,
+    }
 }
 
-// Opens a sheet into lent columns.
+// Opens a sheet into lent columns, with the outlets that are lent with them.
 pub fn open_sheet(
     s: &[u8],
     bed: &mut [i64],
@@ -247,8 +265,9 @@ pub fn open_sheet(
     mass: &mut [u64],
     base: &mut [u64],
     carried: &mut [i64],
+    outlets: Outlets,
 ) -> OpenAnswer
-    ensures { λ r. ⌜ OpenCameTo (opening (now (s .entry)) (came bed depth discharge mass base carried 0 noneHeld)) r (now (bed .exit)) (now (depth .exit)) (now (discharge .exit)) (now (mass .exit)) (now (base .exit)) (now (carried .exit)) ⌝ }
+    ensures { λ r. ⌜ OpenCameTo (opening (now (s .entry)) (came bed depth discharge mass base carried 0 (noneHeld outlets))) r (now (bed .exit)) (now (depth .exit)) (now (discharge .exit)) (now (mass .exit)) (now (base .exit)) (now (carried .exit)) ⌝ }
 {
     let checked = check_opening(
         s,
@@ -258,14 +277,15 @@ pub fn open_sheet(
         mass.len(),
         base.len(),
         carried.len(),
+        outlets,
     );
     let Check::Pass = checked else {
-        return unopened(checked);
+        return unopened(checked, outlets);
     };
     fill(s, layout_of(s), bed, depth, discharge, mass, base, carried);
     OpenAnswer {
         refusal: 0,
         cell_length: cell_length_of(s),
-        held: held_of(s),
+        held: held_of(s, outlets),
     }
 }

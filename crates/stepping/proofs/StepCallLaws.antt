@@ -6,25 +6,33 @@ use mathlib.Core.List.{List, [], _∷_}
 use Prim.Native.Nat.{ℕ, zero, suc, _+_, _-_, _*_, _≤_, _<_}
 use native.Mathlib.Numerals.{add-one}
 use native.Mathlib.Omega.{arith}
-use borrow.Author.Tests.{leb-true, le-leb, eqb-true, le-ltb, ne-eqb}
-use lib.Dec.{leb, eqb}
+use borrow.Author.Tests.{leb-true, le-leb, eqb-true, le-ltb, lt-ltb, ne-eqb}
+use lib.Dec.{leb, ltb, eqb}
 use lib.IntN.{ℤ, pos, negsuc, _+ℤ_, negℤ, natAbs}
 use lib.Signed.{leZ}
 use lib.ListN.{length, getD, replicate, length-replicate}
-use Rattle.numbers.specs.Index.{allBelow, tabulate}
+use Rattle.numbers.specs.Index.{allBelow, tabulate, sum}
+use Rattle.numbers.specs.Deal.{dealt}
 use Rattle.numbers.specs.Signed.{positive}
-use Rattle.numbers.proofs.IndexLaws.{and-both, and-left, and-right, all-of, all-at, all-below, all-same, tabulate-same}
+use Rattle.numbers.proofs.IndexLaws.{and-both, and-left, and-right, all-of, all-at, all-below, all-same, tabulate-same, getD-tabulate, length-tabulate}
 use Rattle.numbers.proofs.SearchLaws.{by-less}
 use Rattle.numbers.proofs.SignedLaws.{abs-neg}
+use Rattle.outlet.specs.Outlets.{outletsMost, wantMost, outletAt}
+use Rattle.outlet.specs.declared.Outlets.{Outlets}
+use Rattle.outlet.proofs.OutletLaws.{each-at, each-count, each-same}
+use Rattle.drawing.specs.Ranges.{Granted}
 use Rattle.flux.specs.Limits.{depthMost, timeStepMost}
 use Rattle.flux.specs.Interface.{Side, mirrored}
 use Rattle.flux.specs.Ranges.{Mesh}
 use Rattle.flux.specs.Velocity.{velocity}
 use Rattle.cfl.specs.Cfl.{signalSpeed, speedAt, meetsCfl}
-use Rattle.reach.specs.Limits.{wall, openBoundary, fed, carriedMost}
-use Rattle.reach.specs.Reach.{Reach, reachOf, cells, depthAt, dischargeAt, baseAt, carriedAt, leftBoundary, rightBoundary, withLedger}
-use Rattle.reach.specs.Grounds.{firstRefusal, recordGrounds, boundaryFits, boundariesFit, kindFits, ledgerFits, passOr}
+use Rattle.reach.specs.Limits.{wall, openBoundary, fed, carriedMost, cellsMost, totalMost}
+use Rattle.reach.specs.Reach.{Reach, reachOf, cells, depthAt, dischargeAt, baseAt, carriedAt, leftBoundary, rightBoundary, withTotals}
+use Rattle.reach.specs.Grounds.{firstRefusal, recordGrounds, boundaryFits, boundariesFit, kindFits, allTotalsFit, passOr}
 use Rattle.reach.specs.Outcome.{Outcome, outcome}
+use Rattle.reach.specs.Parts.{outflow, drawnFrom}
+use Rattle.reach.specs.Ranges.{alone, cutDrawn}
+use Rattle.reach.specs.declared.held.Held.{Held}
 use Rattle.reach.specs.declared.boundary.Boundary.{Boundary}
 use Rattle.reach.specs.declared.boundary.BoundaryPlace.{BoundaryPlace}
 use Rattle.reach.specs.declared.boundary.BoundaryPlace.the-variants.{Left, Right}
@@ -32,22 +40,24 @@ use Rattle.reach.specs.declared.ledger.Ledger.{Ledger}
 use Rattle.reach.specs.declared.refusal.Check.{Check}
 use Rattle.reach.specs.declared.refusal.Check.the-variants.{Pass, Refused}
 use Rattle.reach.proofs.GroundsLaws.{go-on, stop-at, last-one, further, no-further, numbered, refused-number}
-use Rattle.reach.proofs.Sound.{Sound}
-use Rattle.mass.specs.Transport.{massColumns}
+use Rattle.reach.proofs.OutletLaws.{one-drawn}
+use Rattle.reach.proofs.PartsLaws.{outflow-is, sum-single}
+use Rattle.reach.proofs.Sound.{Sound, outlets-few, outlet-sound}
+use Rattle.mass.specs.Transport.{massColumns, movedOutlet, movedOutlets}
 use Rattle.mass.specs.Ranges.{Ready, movedMass}
-use Rattle.transport.specs.Calls.{massColumnsOf, withMass, ledgerWith, afterTransport}
-use Rattle.transport.specs.Ranges.{Small}
-use Rattle.transport.proofs.CallsLaws.{ready, small, ledger-is, carried-zero}
+use Rattle.transport.specs.Calls.{massColumnsOf, withMass, ledgerWith, transportOutlets, transportHeld, afterTransport}
+use Rattle.transport.specs.Ranges.{massColumnsWith, Small}
+use Rattle.transport.proofs.CallsLaws.{drawn-at, crossed-with, ready-entering, moved-entering, outlets-are, small, ledger-is, carried-zero}
 use Rattle.water.specs.Sides.{sideSpeed, cellSide, boundarySide, leftSide, rightSide}
-use Rattle.water.specs.Water.{netAt, newDepth}
-use Rattle.water.specs.Ranges.{fluxMost, flowOf, FlowFits, sideMeets, sidesMeet, Swept}
-use Rattle.water.proofs.WaterLaws.{right-side-cell, right-side-end, net-small}
+use Rattle.water.specs.Water.{netAt, wantsFrom, draws, drawOf, newDepth, newDischarge}
+use Rattle.water.specs.Ranges.{fluxMost, flowOf, FlowFits, sideMeets, sidesMeet, granted, grantedDepth, grantedDischarge, Swept}
+use Rattle.water.proofs.WaterLaws.{right-side-cell, right-side-end, net-small, granted-is, depth-is, discharge-is, draws-dealt, draw-most}
 use Rattle.timestep.specs.GreatestStep.{boundarySpeed, leftSpeed, rightSpeed, placeSpeed}
 use Rattle.stepping.specs.declared.step.StepAnswer.{StepAnswer}
-use Rattle.update.proofs.StepLaws.{by-step}
-use Rattle.update.specs.Step.{summed, keepsSums, transportedFirst, withBoundaryWater, stepLedger, afterStep, timeFits, depthsFit, stepGrounds, step, transports}
+use Rattle.update.proofs.StepLaws.{by-step, transported-count, summed-drawn, drawn-depth, water-fits as outlet-water-fits, each-totals}
+use Rattle.update.specs.Step.{summed, summedDrawn, keepsSums, transportedFirst, withBoundaryWater, stepLedger, steppedOutlet, stepOutlets, stepHeld, afterStep, timeFits, depthsFit, stepGrounds, step, transports}
 use Rattle.stepping.specs.StepCall.{stoppedBy, StepCameTo}
-use Rattle.stepping.specs.Ranges.{Summable, sumsKept, BoundaryMassWhen}
+use Rattle.stepping.specs.Ranges.{Summable, Drawable, sumsKept, BoundaryMassWhen, outletWith, withDraws, Room, StepFound}
 
 -- ---- what a sound record owes the sweep
 
@@ -108,6 +118,19 @@ module _ (t X : ℕ) (p : BoundaryPlace) (e : Boundary) (c : Side) where
       go false true f x y z k q = m
       go false false true x y z k q = q
       go false false false x y z k q = cc
+
+-- what moves with the mass of an outlet: its drawn water is gone, its water total stays
+transport-outlets-are : (s : Reach) → transportOutlets s ≡ movedOutlets (massColumnsOf s) (s .held .outlets)
+unfolding transportOutlets
+transport-outlets-are s = refl
+
+none-drawn : (s : Reach) (n : ℕ) → movedOutlet (massColumnsOf s) (s .held .outlets) n .drawn ≤ depthMost
+unfolding movedOutlet
+none-drawn s n = omega arith
+
+same-water : (s : Reach) (n : ℕ) → outletAt (s .held .outlets) n .water ≤ totalMost → movedOutlet (massColumnsOf s) (s .held .outlets) n .water ≤ totalMost
+unfolding movedOutlet
+same-water s n l = l
 
 module _ (s : Reach) (k : Sound s) (t : ℕ) where
   -- CFL at place p
@@ -181,31 +204,104 @@ module _ (s : Reach) (k : Sound s) (t : ℕ) where
   pub met-is : sidesMeet s t ≡ meetsCfl (placeSpeed s) (cells s + 1) (s .cellLength) t
   met-is = same-truth _ _ to-places to-sides
 
-  -- ---- what the sweep found is what grounds 12 and the transport test read
+  -- ---- what the sweep found is what ground 12 and the transport test read
 
-  module _ (net : List ℤ) (depth : List ℕ) (discharge : List ℤ) (w : Swept s t net depth discharge) where
-    below : (z : ℤ) (n : ℕ) → leZ z (pos n) ≡ leb (positive z) n
-    below (pos m) n = refl
-    below (negsuc m) n = sym (le-leb 0 n (omega arith))
+  abbrev os : Outlets
+  os = s .held .outlets
 
-    pub depths-are : allBelow (cells s) (λ i. leb (getD depth i 0) depthMost) ≡ depthsFit s t
-    unfolding depthsFit
-    depths-are = all-same _ _ (cells s) (λ i l. rw (w .depths i l) (sym (below (newDepth s t i) depthMost)))
+  few : os .count ≤ outletsMost
+  few = outlets-few (cells s) os (k .outlets)
 
-    pub sums-are : sumsKept (s .base) (s .carried) net ≡ keepsSums s t
-    unfolding sumsKept keepsSums summed
-    sums-are =
-        rw (k .bases)
-        (all-same _ _ (cells s) (λ i l. rw (w .nets i (omega arith), w .nets (i + 1) (omega arith), add-one i) refl))
+  inside : (n : ℕ) → n < os .count → outletAt os n .cell < cells s
+  inside n l = outlet-sound (cells s) os (k .outlets) n l .cell
+
+  below : (z : ℤ) (n : ℕ) → leZ z (pos n) ≡ leb (positive z) n
+  below (pos m) n = refl
+  below (negsuc m) n = sym (le-leb 0 n (omega arith))
+
+  pub depths-are : (depth : List ℕ) → ((i : ℕ) → i < cells s → getD depth i 0 ≡ positive (newDepth s t i)) → allBelow (cells s) (λ i. leb (getD depth i 0) depthMost) ≡ depthsFit s t
+  unfolding depthsFit
+  depths-are depth e = all-same _ _ (cells s) (λ i l. rw (e i l) (sym (below (newDepth s t i) depthMost)))
+
+  -- the column of what is wanted of each cell
+  module _ (wanted : List ℕ) (e : wanted ≡ tabulate cellsMost (λ i. sum (wantsFrom os i))) where
+    wanted-at : (i : ℕ) → i < cellsMost → getD wanted i 0 ≡ sum (wantsFrom os i)
+    wanted-at i l = rw e (getD-tabulate cellsMost (λ i. sum (wantsFrom os i)) i 0 l)
+
+    pub wanted-long : length wanted ≡ cellsMost
+    wanted-long = ap length e ∙ length-tabulate cellsMost (λ i. sum (wantsFrom os i))
+
+    module _ (net : List ℤ) (given depth : List ℕ) (discharge : List ℤ) (w : Swept s t wanted net given depth discharge) where
+      of-wants : (i : ℕ) → i < cells s → i < cellsMost
+      of-wants i l = omega (arith, l, k .few)
+
+      pub grant-of : (i : ℕ) → i < cells s → getD given i 0 ≡ sum (draws s t i)
+      grant-of i l = w .grants i l ∙ ap (λ (n : ℕ). granted s t n i) (wanted-at i (of-wants i l)) ∙ sym (granted-is s t i)
+
+      pub depth-of : (i : ℕ) → i < cells s → getD depth i 0 ≡ positive (newDepth s t i)
+      depth-of i l = w .depths i l ∙ ap (λ (n : ℕ). positive (grantedDepth s t n i)) (wanted-at i (of-wants i l)) ∙ ap positive (sym (depth-is s t i))
+
+      pub discharge-of : (i : ℕ) → i < cells s → getD discharge i (pos 0) ≡ newDischarge s t i
+      discharge-of i l = w .discharges i l ∙ ap (λ (n : ℕ). grantedDischarge s t n i) (wanted-at i (of-wants i l)) ∙ sym (discharge-is s t i)
+
+      -- what each cell gives is no more than what is wanted of it, and past the last cell nothing
+      pub grants : length given ≡ cellsMost → ((i : ℕ) → cells s ≤ i → getD given i 0 ≡ 0) → Granted os wanted given
+      unfolding granted
+      grants long rest = record {
+        few = few;
+        long = long ∙ sym wanted-long;
+        within = λ n l. omega (arith, inside n l, k .few, wanted-long);
+        small = λ n l. outlet-sound (cells s) os (k .outlets) n l .want;
+        wants = λ i l. wanted-at i (omega (arith, l, wanted-long));
+        most = λ i l. by-less i (cells s) (λ b. getD given i 0 ≤ getD wanted i 0) (λ j. rw (w .grants i j) (omega arith)) (λ j. rw (rest i j) (omega arith));
+      }
+
+      pub got-of : (got : List ℕ) → got ≡ tabulate 32 (λ n. cond (ltb n (os .count)) (getD (dealt (getD given (outletAt os n .cell) 0) (wantsFrom os (outletAt os n .cell))) n 0) 0)
+          → (n : ℕ) → n < os .count → getD got n 0 ≡ drawOf s t n
+      unfolding drawOf
+      got-of got e n l =
+          let i = outletAt os n .cell in
+          let j = inside n l in
+          ap (λ (g : List ℕ). getD g n 0) e
+          ∙ getD-tabulate 32 (λ n. cond (ltb n (os .count)) (getD (dealt (getD given (outletAt os n .cell) 0) (wantsFrom os (outletAt os n .cell))) n 0) 0) n 0 (omega (arith, l, few))
+          ∙ ap (λ (b : Bool). cond b (getD (dealt (getD given i 0) (wantsFrom os i)) n 0) 0) (lt-ltb n (os .count) l)
+          ∙ ap (λ (g : ℕ). getD (dealt g (wantsFrom os i)) n 0) (w .grants i j ∙ ap (λ (n : ℕ). granted s t n i) (wanted-at i (of-wants i j)))
+          ∙ ap (λ (ds : List ℕ). getD ds n 0) (sym (draws-dealt s t i))
+
+  module _ (cfl : meetsCfl (placeSpeed s) (cells s + 1) (s .cellLength) t ≡ true) (net : List ℤ) (given depth : List ℕ) (discharge : List ℤ) (got : List ℕ) (w : StepFound s t net given depth discharge got) where
+    module _ (drawn : List ℕ) (e : drawn ≡ tabulate cellsMost (cutDrawn os)) where
+      drawn-is : (i : ℕ) → i < cells s → getD drawn i 0 ≡ sum (drawnFrom os i)
+      drawn-is i l = drawn-at s k drawn e i l
+
+      pub sums-are : sumsKept (s .base) (s .carried) net drawn given ≡ keepsSums s t
+      unfolding sumsKept keepsSums summed
+      sums-are =
+          rw (k .bases)
+          (all-same _ _ (cells s) (λ i l.
+          rw (w .nets i (omega arith), w .nets (i + 1) (omega arith), add-one i)
+          (ap (λ (o : ℕ). leb o (baseAt s i)) (same-sums (carriedAt s i +ℤ netAt s t i) (carriedAt s (suc i) +ℤ netAt s t (suc i)) i l))))
+        where
+          same-sums : (x y : ℤ) (i : ℕ) → i < cells s → outflow x y ((getD drawn i 0 + getD given i 0) ∷ []) ≡ outflow x y (summedDrawn s t i)
+          same-sums x y i l =
+              let d = getD drawn i 0 + getD given i 0 in
+              omega (arith, outflow-is x y (d ∷ []), sum-single d, outflow-is x y (summedDrawn s t i), drawn-is i l, w .grants i l, summed-drawn s k t cfl i)
+
+      pub drawable : Drawable (length (s .base)) drawn given
+      drawable = record {
+        drawn-long = omega (arith, k .bases, k .few, ap length e ∙ length-tabulate cellsMost (cutDrawn os));
+        given-long = omega (arith, k .bases, w .given-long);
+        drawn-most = λ i l. let j : i < cells s = omega (arith, l, k .bases) in rw (drawn-is i j) (omega (arith, k .water i j .covered, outflow-is (carriedAt s i) (carriedAt s (i + 1)) (drawnFrom os i), k .cell i j .base));
+        given-most = λ i l. let j : i < cells s = omega (arith, l, k .bases) in rw (w .grants i j) (omega (arith, drawn-depth s k t cfl i j, k .cell i j .depth));
+      }
 
     pub net-at : Mesh t (s .cellLength) → (i : ℕ) → i ≤ cells s → natAbs (getD net i (pos 0)) ≤ fluxMost
     net-at g i l = rw (w .nets i l) (net-small s (flow-fits s k) t i g l)
 
-    pub summable : Mesh t (s .cellLength) → cells s < length net → Summable (length (s .base)) (s .carried) net
-    summable g n = record {
+    pub summable : Mesh t (s .cellLength) → Summable (length (s .base)) (s .carried) net
+    summable g = record {
       few = omega (arith, k .few, k .bases);
       interfaces = omega (arith, k .interfaces, k .bases);
-      long = omega (arith, n, k .bases);
+      long = omega (arith, w .net-long, k .bases);
       carried = λ i l. let b = carried-small s k i (omega (arith, k .bases)) in omega arith;
       crossed = λ i l. let b = net-at g i (omega (arith, k .bases)) in omega arith;
     }
@@ -248,65 +344,123 @@ module _ (s : Reach) (k : Sound s) (t : ℕ) where
           let b = net-at g i j in
           (omega (arith, a), omega (arith, b))
 
-  -- ---- the transport inside the step
+    -- what the outlets can have
+    got-most : (n : ℕ) → n < os .count → getD got n 0 ≤ wantMost
+    got-most n l = omega (arith, w .gots n l, draw-most s t n l, outlet-sound (cells s) os (k .outlets) n l .want)
 
-  module _ (v : Bool) (e : v ≡ not (keepsSums s t)) where
-    module _ (a b c d : ℕ) (x : BoundaryMassWhen v (massColumnsOf s) a b c d) where
-      pub small-when : Small a b c d
-      small-when = go v refl
+    drawn-one : (n : ℕ) → n < os .count → outletAt os n .drawn ≤ depthMost
+    drawn-one n l =
+        let i = outletAt os n .cell in
+        let j = inside n l in
+        omega (arith, one-drawn os n l, k .water i j .covered, outflow-is (carriedAt s i) (carriedAt s (i + 1)) (drawnFrom os i), k .cell i j .base)
+
+    water-one : (n : ℕ) → n < os .count → outletAt os n .water ≤ totalMost
+    water-one n l = outlet-water-fits (outletAt os n) (each-totals (s .held) (k .totals) n l)
+
+    pub room : Room os got
+    room = record { few = few; got-most = got-most; drawn-most = drawn-one; water-most = water-one }
+
+    moved-room : Room (movedOutlets (massColumnsOf s) os) got
+    unfolding movedOutlets
+    moved-room =
+        let f = movedOutlet (massColumnsOf s) os in
+        let n = each-count f os in record {
+          few = omega (arith, n, few);
+          got-most = λ j l. got-most j (omega (arith, l, n));
+          drawn-most = λ j l. rw (each-at f os few j (omega (arith, l, n))) (none-drawn s j);
+          water-most = λ j l. let q : j < os .count = omega (arith, l, n) in rw (each-at f os few j q) (same-water s j (water-one j q));
+        }
+
+    -- ---- the transport inside the step
+
+    module _ (v : Bool) (e : v ≡ not (keepsSums s t)) where
+      pub room-when : Room (cond v (movedOutlets (massColumns (s .mass) (s .base) (s .carried) (drawnFrom os) 0 0) os) os) got
+      room-when = go v
         where
-          go : (u : Bool) → v ≡ u → Small a b c d
-          go true p = small s k a b c d (x .transported p)
-          go false p =
-              let z = x .kept p in
-              record { left-in = omega (arith, z .0); left-out = omega (arith, z .1); right-in = omega (arith, z .2); right-out = omega (arith, z .3) }
+          go : (u : Bool) → Room (cond u (movedOutlets (massColumns (s .mass) (s .base) (s .carried) (drawnFrom os) 0 0) os) os) got
+          go true = subst (λ (x : Outlets). Room x got) (sym (outlets-are s k ∙ transport-outlets-are s)) moved-room
+          go false = room
 
-      pub ready-when : v ≡ true → Ready (massColumns (s .mass) (s .base) (s .carried) a c)
-      ready-when p = rw (x .transported p .left-in, x .transported p .right-in) (ready s k)
-
-      none : (l : Ledger) → ledgerWith l 0 0 0 0 ≡ l
-      unfolding ledgerWith withMass
-      none l =
-          let plus : (n : ℕ) → n + 0 ≡ n = λ n. omega arith in
-          rw (plus (l .left .«mass_in»), plus (l .left .«mass_out»), plus (l .right .«mass_in»), plus (l .right .«mass_out»)) refl
-
-      ledger-when : ledgerWith (s .held .ledger) a b c d ≡ transportedFirst s t .held .ledger
-      unfolding transportedFirst afterTransport
-      ledger-when = go (keepsSums s t) refl
+      outlets-when : cond v (movedOutlets (massColumns (s .mass) (s .base) (s .carried) (drawnFrom os) 0 0) os) os ≡ transportedFirst s t .held .outlets
+      unfolding transportedFirst afterTransport transportHeld
+      outlets-when = rw e (go (keepsSums s t))
         where
-          go : (u : Bool) → keepsSums s t ≡ u → ledgerWith (s .held .ledger) a b c d ≡ cond u s (afterTransport s) .held .ledger
-          go true p =
-              let z = x .kept (e ∙ ap not p) in
-              rw (z .0, z .1, z .2, z .3) (none (s .held .ledger))
-          go false p = ledger-is s k a b c d (x .transported (e ∙ ap not p))
+          go : (u : Bool) → cond (not u) (movedOutlets (massColumns (s .mass) (s .base) (s .carried) (drawnFrom os) 0 0) os) os ≡ cond u s (afterTransport s) .held .outlets
+          go true = refl
+          go false = outlets-are s k
 
-      pub ledger-after : (first last : ℤ) → first ≡ netAt s t 0 → last ≡ netAt s t (cells s) → withBoundaryWater (ledgerWith (s .held .ledger) a b c d) first last ≡ stepLedger s t
-      unfolding stepLedger
-      ledger-after first last p q = rw (p, q, ledger-when) refl
+      -- each outlet with what it has
+      draws-when : withDraws (transportedFirst s t .held .outlets) got ≡ stepOutlets s t
+      unfolding withDraws outletWith stepOutlets steppedOutlet
+      draws-when =
+          let rs = transportedFirst s t .held .outlets in
+          each-same _ _ rs (λ n l. ap (λ (x : ℕ). let o = outletAt rs n in record { cell = o .cell; want = o .want; drawn = o .drawn + x; water = o .water + x; mass = o .mass }) (w .gots n (omega (arith, l, transported-count s t))))
 
-      pub mass-when : cond v (movedMass (massColumns (s .mass) (s .base) (s .carried) a c)) (s .mass) ≡ afterStep s t .mass
+      module _ (d : List ℕ) (ed : d ≡ tabulate cellsMost (cutDrawn os)) where
+        with-one : {a b c o : ℕ} → BoundaryMassWhen v (massColumnsWith (s .mass) (s .base) (s .carried) (alone d) (s .held .boundaries)) a b c o → BoundaryMassWhen v (massColumnsOf s) a b c o
+        with-one x = record { transported = λ p. crossed-with s k d ed (x .transported p); kept = x .kept }
+
+        pub small-when : (a b c o : ℕ) → BoundaryMassWhen v (massColumnsWith (s .mass) (s .base) (s .carried) (alone d) (s .held .boundaries)) a b c o → Small a b c o
+        small-when a b c o y = go v refl
+          where
+            go : (u : Bool) → v ≡ u → Small a b c o
+            go true p = small s k a b c o (with-one y .transported p)
+            go false p =
+                let z = y .kept p in
+                record { left-in = omega (arith, z .0); left-out = omega (arith, z .1); right-in = omega (arith, z .2); right-out = omega (arith, z .3) }
+
+        module _ (a b c o : ℕ) (y : BoundaryMassWhen v (massColumnsWith (s .mass) (s .base) (s .carried) (alone d) (s .held .boundaries)) a b c o) where
+          abbrev x : BoundaryMassWhen v (massColumnsOf s) a b c o
+          x = with-one y
+
+          pub ready-when : v ≡ true → Ready (massColumns (s .mass) (s .base) (s .carried) (alone d) a c)
+          ready-when p = ready-entering s k d ed (x .transported p .left-in) (x .transported p .right-in)
+
+          none : (l : Ledger) → ledgerWith l 0 0 0 0 ≡ l
+          unfolding ledgerWith withMass
+          none l =
+              let plus : (n : ℕ) → n + 0 ≡ n = λ n. omega arith in
+              rw (plus (l .left .«mass_in»), plus (l .left .«mass_out»), plus (l .right .«mass_in»), plus (l .right .«mass_out»)) refl
+
+          ledger-when : ledgerWith (s .held .ledger) a b c o ≡ transportedFirst s t .held .ledger
+          unfolding transportedFirst afterTransport transportHeld
+          ledger-when = go (keepsSums s t) refl
+            where
+              go : (u : Bool) → keepsSums s t ≡ u → ledgerWith (s .held .ledger) a b c o ≡ cond u s (afterTransport s) .held .ledger
+              go true p =
+                  let z = x .kept (e ∙ ap not p) in
+                  rw (z .0, z .1, z .2, z .3) (none (s .held .ledger))
+              go false p = ledger-is s k a b c o (x .transported (e ∙ ap not p))
+
+          -- all that is held after the step
+          pub held-after : (first last : ℤ) → first ≡ netAt s t 0 → last ≡ netAt s t (cells s)
+              → withTotals (withBoundaryWater (ledgerWith (s .held .ledger) a b c o) first last) (withDraws (cond v (movedOutlets (massColumns (s .mass) (s .base) (s .carried) (drawnFrom os) 0 0) os) os) got) (s .held) ≡ stepHeld s t
+          unfolding stepHeld stepLedger
+          held-after first last p q = rw (p, q, ledger-when, outlets-when, draws-when) refl
+
+          pub mass-when : cond v (movedMass (massColumns (s .mass) (s .base) (s .carried) (alone d) a c)) (s .mass) ≡ afterStep s t .mass
+          unfolding afterStep transportedFirst afterTransport
+          mass-when = rw e (go (keepsSums s t) refl)
+            where
+              go : (u : Bool) → keepsSums s t ≡ u → cond (not u) (movedMass (massColumns (s .mass) (s .base) (s .carried) (alone d) a c)) (s .mass) ≡ cond u s (afterTransport s) .mass
+              go true p = refl
+              go false p = let z = x .transported (e ∙ ap not p) in moved-entering s k d ed (z .left-in) (z .right-in)
+
+      pub base-when : cond v (s .depth) (s .base) ≡ afterStep s t .base
       unfolding afterStep transportedFirst afterTransport
-      mass-when = rw e (go (keepsSums s t) refl)
+      base-when = rw e (go (keepsSums s t))
         where
-          go : (u : Bool) → keepsSums s t ≡ u → cond (not u) (movedMass (massColumns (s .mass) (s .base) (s .carried) a c)) (s .mass) ≡ cond u s (afterTransport s) .mass
-          go true p = refl
-          go false p = let y = x .transported (e ∙ ap not p) in rw (y .left-in, y .right-in) refl
+          go : (u : Bool) → cond (not u) (s .depth) (s .base) ≡ cond u s (afterTransport s) .base
+          go true = refl
+          go false = refl
 
-    pub base-when : cond v (s .depth) (s .base) ≡ afterStep s t .base
-    unfolding afterStep transportedFirst afterTransport
-    base-when = rw e (go (keepsSums s t))
-      where
-        go : (u : Bool) → cond (not u) (s .depth) (s .base) ≡ cond u s (afterTransport s) .base
-        go true = refl
-        go false = refl
-
-    pub carried-when : cond v (replicate (length (s .carried)) (pos 0)) (s .carried) ≡ transportedFirst s t .carried
-    unfolding transportedFirst afterTransport
-    carried-when = rw e (go (keepsSums s t))
-      where
-        go : (u : Bool) → cond (not u) (replicate (length (s .carried)) (pos 0)) (s .carried) ≡ cond u s (afterTransport s) .carried
-        go true = refl
-        go false = refl
+      pub carried-when : cond v (replicate (length (s .carried)) (pos 0)) (s .carried) ≡ transportedFirst s t .carried
+      unfolding transportedFirst afterTransport
+      carried-when = rw e (go (keepsSums s t))
+        where
+          go : (u : Bool) → cond (not u) (replicate (length (s .carried)) (pos 0)) (s .carried) ≡ cond u s (afterTransport s) .carried
+          go true = refl
+          go false = refl
 
 -- ---- what each outcome is
 
@@ -336,15 +490,15 @@ module _ (s : Reach) (t : ℕ) where
         stopped-12 f = ap (λ (k : Check). outcome k s (afterStep s t)) (further (recordGrounds s (s .held .boundaries)) _ e ∙ go-on _ _ time (go-on _ _ cfl (stop-at _ _ f)))
 
         module _ (deep : depthsFit s t ≡ true) where
-          at-last : (b : Bool) → ledgerFits (stepLedger s t) ≡ b → firstRefusal (stepGrounds s t) ≡ passOr 13 b
+          at-last : (b : Bool) → allTotalsFit (stepHeld s t) ≡ b → firstRefusal (stepGrounds s t) ≡ passOr 13 b
           at-last b f =
-              further (recordGrounds s (s .held .boundaries)) _ e ∙ go-on _ _ time (go-on _ _ cfl (go-on _ _ deep (last-one 13 (ledgerFits (stepLedger s t)) ∙ ap (passOr 13) f)))
+              further (recordGrounds s (s .held .boundaries)) _ e ∙ go-on _ _ time (go-on _ _ cfl (go-on _ _ deep (last-one 13 (allTotalsFit (stepHeld s t)) ∙ ap (passOr 13) f)))
 
-          pub stopped-13 : ledgerFits (stepLedger s t) ≡ false → step s t ≡ record { refusal = 13; reach = s }
+          pub stopped-13 : allTotalsFit (stepHeld s t) ≡ false → step s t ≡ record { refusal = 13; reach = s }
           unfolding step
           stopped-13 f = ap (λ (k : Check). outcome k s (afterStep s t)) (at-last false f)
 
-          pub stepped-on : ledgerFits (stepLedger s t) ≡ true → step s t ≡ record { refusal = 0; reach = afterStep s t }
+          pub stepped-on : allTotalsFit (stepHeld s t) ≡ true → step s t ≡ record { refusal = 0; reach = afterStep s t }
           unfolding step
           stepped-on f = ap (λ (k : Check). outcome k s (afterStep s t)) (at-last true f)
 
@@ -370,14 +524,14 @@ module _ (s : Reach) (t : ℕ) where
   transports-is e = rw e refl
 
   -- an accepted one leaves the record after the step
-  pub came-out : {l : Ledger} {v : Bool} {h : List ℕ} {q : List ℤ} {m b : List ℕ} {c : List ℤ} → step s t ≡ record { refusal = 0; reach = afterStep s t }
-      → l ≡ stepLedger s t → v ≡ not (keepsSums s t)
+  pub came-out : {x : Held} {v : Bool} {h : List ℕ} {q : List ℤ} {m b : List ℕ} {c : List ℤ} → step s t ≡ record { refusal = 0; reach = afterStep s t }
+      → x ≡ stepHeld s t → v ≡ not (keepsSums s t)
       → h ≡ afterStep s t .depth → q ≡ afterStep s t .discharge → m ≡ afterStep s t .mass → b ≡ afterStep s t .base → c ≡ afterStep s t .carried
-      → StepCameTo s t (record { refusal = 0; held = withLedger l (s .held); transported = v }) h q m b c
+      → StepCameTo s t (record { refusal = 0; held = x; transported = v }) h q m b c
   unfolding afterStep
-  came-out e l v h q m b c = record {
+  came-out e x v h q m b c = record {
     refusal-is = ap (λ (o : Outcome). o .refusal) (sym e);
-    held-is = ap (λ (k : Ledger). withLedger k (s .held)) l ∙ ap (λ (o : Outcome). o .reach .held) (sym e);
+    held-is = x ∙ ap (λ (o : Outcome). o .reach .held) (sym e);
     transported-is = v ∙ sym (transports-is e);
     depth-is = h ∙ ap (λ (o : Outcome). o .reach .depth) (sym e);
     discharge-is = q ∙ ap (λ (o : Outcome). o .reach .discharge) (sym e);

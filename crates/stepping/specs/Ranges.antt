@@ -1,15 +1,26 @@
 -- Not the paper's: what the inner functions require and give. A reader of the model may skip this file.
 use mathlib.Core.Path.{_≡_}
 use mathlib.Core.Bool.{Bool, true, false}
-use mathlib.Core.List.{List}
+use mathlib.Core.List.{List, [], _∷_}
 use Prim.Native.Nat.{ℕ, _+_, _≤_, _<_}
 use lib.Dec.{leb}
 use lib.IntN.{ℤ, pos, _+ℤ_, natAbs}
 use lib.ListN.{length, getD}
-use Rattle.numbers.specs.Index.{allBelow}
+use Rattle.numbers.specs.Index.{allBelow, sum}
+use Rattle.numbers.specs.Signed.{positive}
+use Rattle.outlet.specs.Outlets.{outletsMost, wantMost, outletAt, eachOutlet}
+use Rattle.outlet.specs.declared.Outlet.{Outlet}
+use Rattle.outlet.specs.declared.Outlets.{Outlets}
+use Rattle.flux.specs.Limits.{depthMost}
+use Rattle.reach.specs.Limits.{totalMost}
+use Rattle.reach.specs.Reach.{Reach, cells}
 use Rattle.reach.specs.Parts.{outflow}
 use Rattle.mass.specs.Transport.{MassColumns}
 use Rattle.transport.specs.Ranges.{BoundaryMassOf}
+use Rattle.cfl.specs.Cfl.{meetsCfl}
+use Rattle.timestep.specs.GreatestStep.{placeSpeed}
+use Rattle.update.specs.Step.{timeFits, depthsFit}
+use Rattle.water.specs.Water.{netAt, draws, drawOf, newDepth, newDischarge}
 
 -- carried water c and amounts N of n cells' interfaces, far from the ends of their type
 pub record Summable (n : ℕ) (c net : List ℤ) : Type 0 where
@@ -20,13 +31,54 @@ pub record Summable (n : ℕ) (c net : List ℤ) : Type 0 where
   pub carried : (i : ℕ) → i ≤ n → natAbs (getD c i (pos 0)) ≤ 1_000_000_000
   pub crossed : (i : ℕ) → i ≤ n → natAbs (getD net i (pos 0)) ≤ 1_000_000_000
 
--- the transport test, of base depths b, carried water c and the amounts N
-unfoldable pub sumsKept : (b : List ℕ) (c net : List ℤ) → Bool
-sumsKept b c net =
+-- what is drawn of each cell, before and in the step, far below what 64 bits hold
+pub record Drawable (n : ℕ) (drawn given : List ℕ) : Type 0 where
+  pub drawn-long : n ≤ length drawn
+  pub given-long : n ≤ length given
+  pub drawn-most : (i : ℕ) → i < n → getD drawn i 0 ≤ 1_000_000_000
+  pub given-most : (i : ℕ) → i < n → getD given i 0 ≤ 1_000_000_000
+
+-- the transport test, of base depths b, carried water c, the amounts N, and what is drawn of each cell before and in the step
+unfoldable pub sumsKept : (b : List ℕ) (c net : List ℤ) (drawn given : List ℕ) → Bool
+sumsKept b c net drawn given =
     allBelow (length b) (λ i.
-    leb (outflow (getD c i (pos 0) +ℤ getD net i (pos 0)) (getD c (i + 1) (pos 0) +ℤ getD net (i + 1) (pos 0))) (getD b i 0))
+    leb (outflow (getD c i (pos 0) +ℤ getD net i (pos 0)) (getD c (i + 1) (pos 0) +ℤ getD net (i + 1) (pos 0)) ((getD drawn i 0 + getD given i 0) ∷ [])) (getD b i 0))
 
 -- the mass that crosses both boundaries where the step transports, and none where it does not
 pub record BoundaryMassWhen (transports : Bool) (s : MassColumns) (leftIn leftOut rightIn rightOut : ℕ) : Type 0 where
   pub transported : transports ≡ true → BoundaryMassOf s leftIn leftOut rightIn rightOut
   pub kept : transports ≡ false → (leftIn ≡ 0) × (leftOut ≡ 0) × (rightIn ≡ 0) × (rightOut ≡ 0)
+
+-- outlets that each have the amount at their place in `got`
+unfoldable pub outletWith : Outlets → (got : List ℕ) → (k : ℕ) → Outlet
+outletWith os got k =
+    let o = outletAt os k in
+    record { cell = o .cell; want = o .want; drawn = o .drawn + getD got k 0; water = o .water + getD got k 0; mass = o .mass }
+
+unfoldable pub withDraws : Outlets → (got : List ℕ) → Outlets
+withDraws os got = eachOutlet (outletWith os got) os
+
+-- outlets that can have them
+pub record Room (os : Outlets) (got : List ℕ) : Type 0 where
+  pub few : os .count ≤ outletsMost
+  pub got-most : (k : ℕ) → k < os .count → getD got k 0 ≤ wantMost
+  pub drawn-most : (k : ℕ) → k < os .count → outletAt os k .drawn ≤ depthMost
+  pub water-most : (k : ℕ) → k < os .count → outletAt os k .water ≤ totalMost
+
+-- what was found of a step of t on the record s: N, what each cell gives, depth and discharge of each cell, what each outlet has
+pub record StepFound (s : Reach) (t : ℕ) (net : List ℤ) (given depth : List ℕ) (discharge : List ℤ) (got : List ℕ) : Type 0 where
+  pub net-long : cells s < length net
+  pub given-long : cells s ≤ length given
+  pub depth-long : cells s ≤ length depth
+  pub discharge-long : cells s ≤ length discharge
+  pub nets : (i : ℕ) → i ≤ cells s → getD net i (pos 0) ≡ netAt s t i
+  pub grants : (i : ℕ) → i < cells s → getD given i 0 ≡ sum (draws s t i)
+  pub depths : (i : ℕ) → i < cells s → getD depth i 0 ≡ positive (newDepth s t i)
+  pub discharges : (i : ℕ) → i < cells s → getD discharge i (pos 0) ≡ newDischarge s t i
+  pub gots : (k : ℕ) → k < s .held .outlets .count → getD got k 0 ≡ drawOf s t k
+
+-- and that it stands grounds 10 to 12
+pub record StepPasses (s : Reach) (t : ℕ) : Type 0 where
+  pub time : timeFits t ≡ true
+  pub cfl : meetsCfl (placeSpeed s) (cells s + 1) (s .cellLength) t ≡ true
+  pub deep : depthsFit s t ≡ true

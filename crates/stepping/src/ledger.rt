@@ -1,11 +1,11 @@
-// The ledger of a step: boundary water (the paper's 'end water') goes in by the sign of N, with the mass of a transport inside the step; ground 13.
+// The ledger of a step: boundary water (the paper's 'end water') goes in by the sign of N, with the mass of a transport inside the step.
 ghost use mathlib.Core.Path.{_≡_};
 ghost use mathlib.Core.Bool.{true};
 ghost use Prim.Native.Nat.{_≤_};
 ghost use lib.IntN.{natAbs};
 ghost use Rattle.reach.specs.Limits.{totalMost};
 ghost use Rattle.reach.specs.Grounds.{ledgerFits};
-ghost use Rattle.transport.specs.Calls.{ledgerWith, EnteredTo};
+ghost use Rattle.transport.specs.Calls.{ledgerWith};
 ghost use Rattle.transport.specs.Ranges.{Small};
 ghost use Rattle.water.specs.Ranges.{fluxMost};
 ghost use Rattle.update.specs.Step.{withWater, withBoundaryWater};
@@ -13,9 +13,7 @@ use numbers::signed::left_part;
 use numbers::signed::right_part;
 use reach::ledger::Ledger;
 use reach::ledger::Totals;
-use reach::ledger::ledger_fits;
 use transport::BoundaryMass;
-use transport::Entered;
 use transport::with_mass;
 
 fn with_water(t: Totals, gained: u64, lost: u64) -> Totals
@@ -31,10 +29,10 @@ fn with_water(t: Totals, gained: u64, lost: u64) -> Totals
 }
 
 // `first` and `last` are N at interface 0, positive inwards, and at interface n, positive outwards.
-pub fn enter_step(k: Ledger, x: BoundaryMass, first: i64, last: i64) -> Entered
+pub fn enter_step(k: Ledger, x: BoundaryMass, first: i64, last: i64) -> Ledger
     requires { ⌜ (ledgerFits k ≡ true) × Small (x .«left_in») (x .«left_out») (x .«right_in») (x .«right_out») ⌝ }
     requires { ⌜ (natAbs first ≤ fluxMost) × (natAbs last ≤ fluxMost) ⌝ }
-    ensures { λ r. ⌜ EnteredTo k (withBoundaryWater (ledgerWith k (x .«left_in») (x .«left_out») (x .«right_in») (x .«right_out»)) first last) r ⌝ }
+    ensures { λ r. ⌜ r ≡ withBoundaryWater (ledgerWith k (x .«left_in») (x .«left_out») (x .«right_in») (x .«right_out»)) first last ⌝ }
 {
     let left = k.left;
     let right = k.right;
@@ -42,12 +40,8 @@ pub fn enter_step(k: Ledger, x: BoundaryMass, first: i64, last: i64) -> Entered
     let moved_right = with_mass(right, x.right_in, x.right_out);
     let next_left = with_water(moved_left, right_part(first), left_part(first));
     let next_right = with_water(moved_right, left_part(last), right_part(last));
-    let next = Ledger {
+    Ledger {
         left: next_left,
         right: next_right,
-    };
-    if ledger_fits(next) {
-        return Entered::Accepted(next);
     }
-    Entered::Refused(13)
 }

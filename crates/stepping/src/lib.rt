@@ -1,4 +1,5 @@
 // The call of a water step (document 01, 'A water step').
 pub mod ledger;
+pub mod outlets;
 pub mod step;
 pub mod transporting;

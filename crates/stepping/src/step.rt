@@ -1,20 +1,32 @@
 // A water step (document 01, 'A water step'): grounds 4 to 13 in checking order, all of them before the first write.
 ghost use mathlib.Core.Path.{_≡_};
-ghost use mathlib.Core.Bool.{true};
+ghost use mathlib.Core.Bool.{true, cond};
 ghost use Prim.Native.Nat.{ℕ, _≤_, _<_};
 ghost use lib.Dec.{leb};
 ghost use lib.IntN.{pos, _+ℤ_, natAbs};
 ghost use lib.ListN.{length, getD};
 ghost use Rattle.numbers.specs.Index.{allBelow, tabulate};
 ghost use Rattle.flux.specs.Limits.{depthMost};
-ghost use Rattle.reach.specs.Reach.{reachOf, came};
-ghost use Rattle.reach.specs.Grounds.{firstRefusal, recordGrounds, numberOf, passOr};
+ghost use Rattle.reach.specs.Reach.{reachOf, came, withTotals};
+ghost use Rattle.reach.specs.Parts.{drawnFrom};
+ghost use Rattle.reach.specs.Ranges.{alone};
+ghost use Rattle.reach.specs.Grounds.{firstRefusal, recordGrounds, ledgerFits, numberOf, passOr};
+ghost use Rattle.mass.specs.Transport.{massColumns, movedOutlets};
+ghost use Rattle.mass.specs.Ranges.{Ready, OutletsReady};
+ghost use Rattle.transport.specs.Calls.{ledgerWith};
+ghost use Rattle.transport.specs.Ranges.{massColumnsWith, Small};
+ghost use Rattle.water.specs.Ranges.{fluxMost};
 ghost use Rattle.reach.specs.declared.refusal.Check.the-variants.{Pass};
-ghost use Rattle.update.specs.Step.{timeFits};
+ghost use Rattle.update.specs.Step.{withBoundaryWater, timeFits};
+ghost use Rattle.stepping.specs.Ranges.{BoundaryMassWhen, Room, withDraws, StepPasses, StepFound};
 ghost use Rattle.stepping.specs.StepCall.{stoppedBy, StepCameTo};
 use super::ledger::enter_step;
+use super::outlets::deal_out;
+use super::outlets::draw;
+use super::outlets::wants_by_cell;
 use super::transporting::boundary_mass_when;
 use super::transporting::keeps_sums;
+use super::transporting::move_outlets_when;
 use super::transporting::transport_when;
 use numbers::columns::add_column;
 use numbers::columns::copy_first;
@@ -22,9 +34,10 @@ use numbers::columns::copy_first_signed;
 use reach::cells::CELLS_MOST;
 use reach::check_record;
 use reach::held::Held;
+use reach::outlets::drawn_by_cell;
 use reach::refusal::Check;
-use transport::Entered;
-use transport::refusal_of;
+use transport::BoundaryMass;
+use transport::check_room;
 use water::sweep::sweep;
 
 // What a step hands back: 0 or the number of its refusal, the boundaries held, the ledger, and whether it transported first.
@@ -103,7 +116,113 @@ fn write_step(
     add_column(carried, net);
 }
 
-// Grounds 11 to 13 and the step itself, on a record and a time that stood those before
+// What is held after the step, and the mass that enters where it transports first
+struct Booked {
+    held: Held,
+    crossed: BoundaryMass,
+}
+
+// The mass of a transport inside the step, the boundary water and what the outlets have go into their totals. `first` and `last` are N at
+// interface 0 and at interface n.
+fn book(
+    transports: bool,
+    mass: &[u64],
+    base: &[u64],
+    carried: &[i64],
+    drawn: &[u64],
+    held: Held,
+    got: [u64; 32],
+    first: i64,
+    last: i64,
+) -> Booked
+    requires { ⌜ Ready (massColumnsWith (now mass) (now base) (now carried) (alone (now drawn)) (held .boundaries)) ⌝ }
+    requires { ⌜ ((1 ≤ length (now mass)) × (length (now mass) ≤ length (now drawn))) × OutletsReady (now mass) (now base) (now carried) (held .outlets) ⌝ }
+    requires { ⌜ ((a b c d : ℕ) → BoundaryMassWhen transports (massColumnsWith (now mass) (now base) (now carried) (alone (now drawn)) (held .boundaries)) a b c d → Small a b c d) ⌝ }
+    requires { ⌜ Room (held .outlets) got × Room (cond transports (movedOutlets (massColumns (now mass) (now base) (now carried) (drawnFrom (held .outlets)) 0 0) (held .outlets)) (held .outlets)) got ⌝ }
+    requires { ⌜ (ledgerFits (held .ledger) ≡ true) × ((natAbs first ≤ fluxMost) × (natAbs last ≤ fluxMost)) ⌝ }
+    ensures { λ r. ⌜ BoundaryMassWhen transports (massColumnsWith (now (mass .entry)) (now (base .entry)) (now (carried .entry)) (alone (now (drawn .entry))) (held .boundaries)) (r .crossed .«left_in») (r .crossed .«left_out») (r .crossed .«right_in») (r .crossed .«right_out») ⌝ }
+    ensures { λ r. ⌜ r .held ≡ withTotals (withBoundaryWater (ledgerWith (held .ledger) (r .crossed .«left_in») (r .crossed .«left_out») (r .crossed .«right_in») (r .crossed .«right_out»)) first last) (withDraws (cond transports (movedOutlets (massColumns (now (mass .entry)) (now (base .entry)) (now (carried .entry)) (drawnFrom (held .outlets)) 0 0) (held .outlets)) (held .outlets)) got) held ⌝ }
+{
+    let boundaries = held.boundaries;
+    let old = held.ledger;
+    let before = held.outlets;
+    let crossed = boundary_mass_when(transports, mass, base, carried, drawn, boundaries);
+    let ledger = enter_step(old, crossed, first, last);
+    let moved = move_outlets_when(transports, mass, base, carried, before);
+    let outlets = draw(moved, got);
+    let after = Held {
+        boundaries,
+        ledger,
+        outlets,
+    };
+    Booked {
+        held: after,
+        crossed,
+    }
+}
+
+// Ground 13 and what the step leaves, of what was found of it
+fn complete(
+    bed: &[i64],
+    depth: &mut [u64],
+    discharge: &mut [i64],
+    mass: &mut [u64],
+    base: &mut [u64],
+    carried: &mut [i64],
+    x: u64,
+    held: Held,
+    t: u64,
+    net: &[i64],
+    given: &[u64],
+    new_depth: &[u64],
+    new_discharge: &[i64],
+    got: [u64; 32],
+) -> StepAnswer
+    requires { ⌜ firstRefusal (recordGrounds (reachOf (now bed) (now depth) (now discharge) (now mass) (now base) (now carried) x held) (held .boundaries)) ≡ Pass ⌝ }
+    requires { ⌜ StepPasses (reachOf (now bed) (now depth) (now discharge) (now mass) (now base) (now carried) x held) t ⌝ }
+    requires { ⌜ StepFound (reachOf (now bed) (now depth) (now discharge) (now mass) (now base) (now carried) x held) t (now net) (now given) (now «new_depth») (now «new_discharge») got ⌝ }
+    ensures { λ r. ⌜ StepCameTo (came bed depth discharge mass base carried x held) t r (now (depth .exit)) (now (discharge .exit)) (now (mass .exit)) (now (base .exit)) (now (carried .exit)) ⌝ }
+{
+    let outlets = held.outlets;
+    let n = bed.len();
+    let mut drawn = [0u64; CELLS_MOST];
+    drawn_by_cell(outlets, &mut drawn);
+    let transports = !keeps_sums(base, carried, net, &drawn, given);
+    let booked = book(
+        transports,
+        mass,
+        base,
+        carried,
+        &drawn,
+        held,
+        got,
+        net[0],
+        net[n],
+    );
+    let after = booked.held;
+    let crossed = booked.crossed;
+    let Check::Pass = check_room(after) else {
+        return stopped(13, held);
+    };
+    transport_when(
+        transports,
+        depth,
+        mass,
+        base,
+        carried,
+        &drawn,
+        crossed.left_in,
+        crossed.right_in,
+    );
+    write_step(depth, discharge, carried, net, new_depth, new_discharge);
+    StepAnswer {
+        refusal: 0,
+        held: after,
+        transported: transports,
+    }
+}
+
+// Grounds 11 and 12, and the step itself, on a record and a time that stood those before
 fn advance(
     bed: &[i64],
     depth: &mut [u64],
@@ -120,11 +239,14 @@ fn advance(
     ensures { λ r. ⌜ StepCameTo (came bed depth discharge mass base carried x held) t r (now (depth .exit)) (now (discharge .exit)) (now (mass .exit)) (now (base .exit)) (now (carried .exit)) ⌝ }
 {
     let boundaries = held.boundaries;
-    let ledger = held.ledger;
+    let outlets = held.outlets;
     let n = bed.len();
+    let mut wanted = [0u64; CELLS_MOST];
     let mut net = [0i64; CELLS_MOST + 1];
+    let mut given = [0u64; CELLS_MOST];
     let mut new_depth = [0u64; CELLS_MOST];
     let mut new_discharge = [0i64; CELLS_MOST];
+    wants_by_cell(outlets, &mut wanted);
     let Check::Pass = sweep(
         t,
         x,
@@ -132,7 +254,9 @@ fn advance(
         depth,
         discharge,
         boundaries,
+        &wanted,
         &mut net,
+        &mut given,
         &mut new_depth,
         &mut new_discharge,
     ) else {
@@ -141,31 +265,23 @@ fn advance(
     let Check::Pass = check_depths(&new_depth, n) else {
         return stopped(12, held);
     };
-    let transports = !keeps_sums(base, carried, &net);
-    let crossed = boundary_mass_when(transports, mass, base, carried, boundaries);
-    let entered = enter_step(ledger, crossed, net[0], net[n]);
-    let Entered::Accepted(next) = entered else {
-        return stopped(refusal_of(entered), held);
-    };
-    transport_when(
-        transports,
+    let got = deal_out(outlets, &wanted, &given);
+    complete(
+        bed,
         depth,
+        discharge,
         mass,
         base,
         carried,
-        crossed.left_in,
-        crossed.right_in,
-    );
-    write_step(depth, discharge, carried, &net, &new_depth, &new_discharge);
-    let after = Held {
-        boundaries,
-        ledger: next,
-    };
-    StepAnswer {
-        refusal: 0,
-        held: after,
-        transported: transports,
-    }
+        x,
+        held,
+        t,
+        &net,
+        &given,
+        &new_depth,
+        &new_discharge,
+        got,
+    )
 }
 
 // One water step of t ms.

@@ -1,35 +1,39 @@
 // The transport test of a step, and the transport inside it.
 ghost use mathlib.Core.Path.{_≡_};
 ghost use mathlib.Core.Bool.{true, false, cond};
+ghost use mathlib.Core.List.{[], _∷_};
 ghost use Prim.Native.Nat.{ℕ, _+_, _≤_, _<_};
 ghost use lib.Dec.{leb};
 ghost use lib.IntN.{pos, _+ℤ_, natAbs};
 ghost use lib.ListN.{length, getD, replicate};
-ghost use Rattle.reach.specs.Parts.{outflow};
-ghost use Rattle.mass.specs.Transport.{massColumns};
-ghost use Rattle.mass.specs.Ranges.{Ready, movedMass};
+ghost use Rattle.reach.specs.Parts.{outflow, drawnFrom};
+ghost use Rattle.reach.specs.Ranges.{alone};
+ghost use Rattle.mass.specs.Transport.{massColumns, movedOutlets};
+ghost use Rattle.mass.specs.Ranges.{Ready, OutletsReady, movedMass};
 ghost use Rattle.transport.specs.Ranges.{massColumnsWith};
-ghost use Rattle.stepping.specs.Ranges.{Summable, sumsKept, BoundaryMassWhen};
+ghost use Rattle.stepping.specs.Ranges.{Summable, Drawable, sumsKept, BoundaryMassWhen};
+use mass::outlets::move_outlets;
 use numbers::signed::left_part;
 use numbers::signed::right_part;
 use numbers::signed::sum_of;
+use outlet::Outlets;
 use reach::boundary::Boundary;
 use transport::BoundaryMass;
 use transport::boundary_mass_of;
 use transport::commit;
 
-// What left a cell of base depth b, over its right and over its left, is covered by it.
-fn covers(b: u64, left: i64, right: i64) -> bool
-    requires { ⌜ (natAbs left ≤ 2_000_000_000) × (natAbs right ≤ 2_000_000_000) ⌝ }
-    ensures { λ r. ⌜ r ≡ leb (outflow left right) b ⌝ }
+// What left a cell of base depth b, over its right, over its left and by its outlets, is covered by it.
+fn covers(b: u64, left: i64, right: i64, drawn: u64) -> bool
+    requires { ⌜ (natAbs left ≤ 2_000_000_000) × ((natAbs right ≤ 2_000_000_000) × (drawn ≤ 2_000_000_000)) ⌝ }
+    ensures { λ r. ⌜ r ≡ leb (outflow left right (drawn ∷ [])) b ⌝ }
 {
-    right_part(right) + left_part(left) <= b
+    right_part(right) + left_part(left) + drawn <= b
 }
 
-// Whether every cell covers the carried water with N added
-pub fn keeps_sums(base: &[u64], carried: &[i64], net: &[i64]) -> bool
-    requires { ⌜ Summable (length (now base)) (now carried) (now net) ⌝ }
-    ensures { λ r. ⌜ r ≡ sumsKept (now (base .entry)) (now (carried .entry)) (now (net .entry)) ⌝ }
+// Whether every cell covers the carried water with N added, and what was drawn of it with what it gives now
+pub fn keeps_sums(base: &[u64], carried: &[i64], net: &[i64], drawn: &[u64], given: &[u64]) -> bool
+    requires { ⌜ Summable (length (now base)) (now carried) (now net) × Drawable (length (now base)) (now drawn) (now given) ⌝ }
+    ensures { λ r. ⌜ r ≡ sumsKept (now (base .entry)) (now (carried .entry)) (now (net .entry)) (now (drawn .entry)) (now (given .entry)) ⌝ }
 {
     let n = base.len();
     let mut i = 0;
@@ -38,6 +42,7 @@ pub fn keeps_sums(base: &[u64], carried: &[i64], net: &[i64]) -> bool
             base[i],
             sum_of(carried[i], net[i]),
             sum_of(carried[i + 1], net[i + 1]),
+            drawn[i] + given[i],
         ) {
             return false;
         }
@@ -52,11 +57,12 @@ pub fn boundary_mass_when(
     mass: &[u64],
     base: &[u64],
     carried: &[i64],
+    drawn: &[u64],
     boundaries: [Boundary; 2],
 ) -> BoundaryMass
-    requires { ⌜ Ready (massColumnsWith (now mass) (now base) (now carried) boundaries) ⌝ }
-    requires { ⌜ 1 ≤ length (now mass) ⌝ }
-    ensures { λ r. ⌜ BoundaryMassWhen transports (massColumnsWith (now (mass .entry)) (now (base .entry)) (now (carried .entry)) boundaries) (r .«left_in») (r .«left_out») (r .«right_in») (r .«right_out») ⌝ }
+    requires { ⌜ Ready (massColumnsWith (now mass) (now base) (now carried) (alone (now drawn)) boundaries) ⌝ }
+    requires { ⌜ (1 ≤ length (now mass)) × (length (now mass) ≤ length (now drawn)) ⌝ }
+    ensures { λ r. ⌜ BoundaryMassWhen transports (massColumnsWith (now (mass .entry)) (now (base .entry)) (now (carried .entry)) (alone (now (drawn .entry))) boundaries) (r .«left_in») (r .«left_out») (r .«right_in») (r .«right_out») ⌝ }
 {
     if !transports {
         return BoundaryMass {
@@ -66,7 +72,24 @@ pub fn boundary_mass_when(
             right_out: 0,
         };
     }
-    boundary_mass_of(mass, base, carried, boundaries)
+    boundary_mass_of(mass, base, carried, drawn, boundaries)
+}
+
+// The outlets after the transport inside a step
+pub fn move_outlets_when(
+    transports: bool,
+    mass: &[u64],
+    base: &[u64],
+    carried: &[i64],
+    outlets: Outlets,
+) -> Outlets
+    requires { ⌜ OutletsReady (now mass) (now base) (now carried) outlets ⌝ }
+    ensures { λ r. ⌜ r ≡ cond transports (movedOutlets (massColumns (now (mass .entry)) (now (base .entry)) (now (carried .entry)) (drawnFrom outlets) 0 0) outlets) outlets ⌝ }
+{
+    if !transports {
+        return outlets;
+    }
+    move_outlets(mass, base, carried, outlets)
 }
 
 // The transport inside a step, with the depths from before it
@@ -76,17 +99,18 @@ pub fn transport_when(
     mass: &mut [u64],
     base: &mut [u64],
     carried: &mut [i64],
+    drawn: &[u64],
     left_in: u64,
     right_in: u64,
 )
-    requires { ⌜ (transports ≡ true → Ready (massColumns (now mass) (now base) (now carried) «left_in» «right_in»)) ⌝ }
-    requires { ⌜ length (now base) ≡ length (now depth) ⌝ }
-    ensures { λ _. ⌜ now (mass .exit) ≡ cond transports (movedMass (massColumns (now (mass .entry)) (now (base .entry)) (now (carried .entry)) «left_in» «right_in»)) (now (mass .entry)) ⌝ }
+    requires { ⌜ (transports ≡ true → Ready (massColumns (now mass) (now base) (now carried) (alone (now drawn)) «left_in» «right_in»)) ⌝ }
+    requires { ⌜ (length (now base) ≡ length (now depth)) × (length (now mass) ≤ length (now drawn)) ⌝ }
+    ensures { λ _. ⌜ now (mass .exit) ≡ cond transports (movedMass (massColumns (now (mass .entry)) (now (base .entry)) (now (carried .entry)) (alone (now (drawn .entry))) «left_in» «right_in»)) (now (mass .entry)) ⌝ }
     ensures { λ _. ⌜ now (base .exit) ≡ cond transports (now (depth .entry)) (now (base .entry)) ⌝ }
     ensures { λ _. ⌜ now (carried .exit) ≡ cond transports (replicate (length (now (carried .entry))) (pos 0)) (now (carried .entry)) ⌝ }
 {
     if !transports {
         return;
     }
-    commit(depth, mass, base, carried, left_in, right_in);
+    commit(depth, mass, base, carried, drawn, left_in, right_in);
 }

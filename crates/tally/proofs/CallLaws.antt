@@ -1,4 +1,4 @@
--- What each call's contract leaves in the columns, boundaries and ledger is the record that `next` says.
+-- What each call's contract leaves in the columns, boundaries, ledger and outlets is the record that `next` says.
 use mathlib.Core.Path.{_≡_, refl, sym, ap, _∙_}
 use mathlib.Core.Bool.{Bool, true, false, cond}
 use mathlib.Core.List.{List, [], _∷_}
@@ -8,6 +8,9 @@ use borrow.Author.Tests.{eq-eqb, ne-eqb}
 use lib.Dec.{eqb}
 use lib.IntN.{ℤ}
 use lib.ListN.{length}
+use Rattle.outlet.specs.Outlets.{loaded}
+use Rattle.outlet.specs.declared.Outlet.{Outlet}
+use Rattle.outlet.specs.declared.Outlets.{Outlets}
 use Rattle.reach.specs.Reach.{Reach, reachOf}
 use Rattle.reach.specs.Grounds.{firstRefusal, recordGrounds}
 use Rattle.reach.specs.Outcome.{Outcome, outcome}
@@ -28,55 +31,62 @@ use Rattle.sheet.specs.declared.opening.OpenAnswer.{OpenAnswer}
 use Rattle.sheet.proofs.OpeningLaws.{by-opening}
 use Rattle.writing.specs.Writing.{WriteCameTo}
 use Rattle.writing.specs.declared.write.WriteAnswer.{WriteAnswer}
-use Rattle.tally.specs.Call.{Free, next, stepCall, transportCall, boundariesCall, greatestCall, writeCall, goesOn}
+use Rattle.tally.specs.Call.{Free, next, stepCall, transportCall, boundariesCall, greatestCall, writeCall, openCall, lending, withWants, afterOpening, goesOn}
 
-pub step-next : (s : Reach) (f : Free) (t : ℕ) {r : StepAnswer} {h : List ℕ} {q : List ℤ} {m b : List ℕ} {c : List ℤ} → StepCameTo s t r h q m b c
+pub step-next : (s : Reach) (f : Free) (t : ℕ) {r : StepAnswer} {h : List ℕ} {q : List ℤ} {m b : List ℕ} {c : List ℤ} → StepCameTo (withWants (f .wants) s) t r h q m b c
     → reachOf (s .bed) h q m b c (s .cellLength) (r .held) ≡ next s f (stepCall t)
-step-next s f t k = left-by-step s t k
+step-next s f t k = left-by-step (withWants (f .wants) s) t k
 
-pub setting-next : (s : Reach) (f : Free) (es : List Boundary) {r : TransportAnswer} {m b : List ℕ} {c : List ℤ} → CameTo (setBoundaries s es) r m b c
+pub setting-next : (s : Reach) (f : Free) (es : List Boundary) {r : TransportAnswer} {m b : List ℕ} {c : List ℤ} → CameTo (setBoundaries (withWants (f .wants) s) es) r m b c
     → reachOf (s .bed) (s .depth) (s .discharge) m b c (s .cellLength) (r .held) ≡ next s f (boundariesCall es)
-setting-next s f es k = left-by-setting s es k
+setting-next s f es k = left-by-setting (withWants (f .wants) s) es k
 
-pub transport-next : (s : Reach) (f : Free) {r : TransportAnswer} {m b : List ℕ} {c : List ℤ} → CameTo (transport s) r m b c
+pub transport-next : (s : Reach) (f : Free) {r : TransportAnswer} {m b : List ℕ} {c : List ℤ} → CameTo (transport (withWants (f .wants) s)) r m b c
     → reachOf (s .bed) (s .depth) (s .discharge) m b c (s .cellLength) (r .held) ≡ next s f transportCall
-transport-next s f k = left-by-transport s k
+transport-next s f k = left-by-transport (withWants (f .wants) s) k
 
--- a greatest-step call and a write hand boundaries and ledger back as they came
+-- a greatest-step call and a write hand boundaries, ledger and outlets back as they came
 greatest-keeps : (s : Reach) (k : Check) → reachOf (s .bed) (s .depth) (s .discharge) (s .mass) (s .base) (s .carried) (s .cellLength) (greatestBy k s .held) ≡ s
 greatest-keeps s Pass = refl
 greatest-keeps s (Refused n) = refl
 
-pub greatest-next : (s : Reach) (f : Free) {r : GreatestAnswer} → r ≡ greatest s
+pub greatest-next : (s : Reach) (f : Free) {r : GreatestAnswer} → r ≡ greatest (withWants (f .wants) s)
     → reachOf (s .bed) (s .depth) (s .discharge) (s .mass) (s .base) (s .carried) (s .cellLength) (r .held) ≡ next s f greatestCall
 unfolding greatest
-greatest-next s f e = rw e (greatest-keeps s (firstRefusal (recordGrounds s (s .held .boundaries))))
+greatest-next s f e =
+    let w = withWants (f .wants) s in
+    rw e (greatest-keeps w (firstRefusal (recordGrounds w (w .held .boundaries))))
 
-pub write-next : (s : Reach) (f : Free) (room : ℕ) {out out' : List ℕ} {r : WriteAnswer} → WriteCameTo s out r out'
+pub write-next : (s : Reach) (f : Free) (room : ℕ) {out out' : List ℕ} {r : WriteAnswer} → WriteCameTo (withWants (f .wants) s) out r out'
     → reachOf (s .bed) (s .depth) (s .discharge) (s .mass) (s .base) (s .carried) (s .cellLength) (r .held) ≡ next s f (writeCall room)
 write-next s f room k = rw (k .held-is) refl
 
--- an opening looks at no more of the record than the lengths of its columns
-abbrev lentOf : Reach → Reach
-lentOf s = lent (s .bed) (s .depth) (s .discharge) (s .mass) (s .base) (s .carried)
+-- an opening looks at no more of the record than the lengths of its columns, and at the list that it is lent
+abbrev lentOf : Reach → Outlets → Reach
+lentOf s os = lent (s .bed) (s .depth) (s .discharge) (s .mass) (s .base) (s .carried) os
 
-pub open-next : (s : Reach) (sheet : List ℕ) {r : OpenAnswer} {z : List ℤ} {h : List ℕ} {q : List ℤ} {m b : List ℕ} {c : List ℤ}
-    → OpenCameTo (opening sheet (lentOf s)) r z h q m b c → goesOn s r z h q m b c ≡ opening sheet s .reach
+pub open-next : (s : Reach) (f : Free) (sheet : List ℕ) (list : List Outlet) {r : OpenAnswer} {z : List ℤ} {h : List ℕ} {q : List ℤ} {m b : List ℕ} {c : List ℤ}
+    → OpenCameTo (opening sheet (lentOf s (loaded list))) r z h q m b c → goesOn s r z h q m b c ≡ next s f (openCall sheet list)
 unfolding opening
-open-next s sheet k =
+open-next s f sheet list k =
     rw (k .refusal-is, k .length-is, k .held-is, k .bed-is, k .depth-is, k .discharge-is, k .mass-is, k .base-is, k .carried-is)
-    (by-opening sheet s
-    (λ (x : Check). let r = outcome x (lentOf s) (sheetRecord sheet) in
+    (by-opening sheet (lending (loaded list) s)
+    (λ (x : Check). let r = outcome x (lentOf s (loaded list)) (sheetRecord sheet (loaded list)) in
+    let o = outcome x (lending (loaded list) s) (sheetRecord sheet (loaded list)) in
     goesOn s (record { refusal = r .refusal; «cell_length» = r .reach .cellLength; held = r .reach .held })
     (r .reach .bed) (r .reach .depth) (r .reach .discharge) (r .reach .mass) (r .reach .base) (r .reach .carried)
-    ≡ outcome x s (sheetRecord sheet) .reach)
+    ≡ afterOpening o s)
     (λ n p. rw (ne-eqb n 0 (λ z. omega arith)) refl)
     (λ e. refl))
 
 -- its number is the definition's
-pub open-number : (s : Reach) (sheet : List ℕ) {r : OpenAnswer} {z : List ℤ} {h : List ℕ} {q : List ℤ} {m b : List ℕ} {c : List ℤ}
-    → OpenCameTo (opening sheet (lentOf s)) r z h q m b c → opening sheet s .refusal ≡ r .refusal
+pub open-number : (s : Reach) (sheet : List ℕ) (os : Outlets) {r : OpenAnswer} {z : List ℤ} {h : List ℕ} {q : List ℤ} {m b : List ℕ} {c : List ℤ}
+    → OpenCameTo (opening sheet (lentOf s os)) r z h q m b c → opening sheet (lending os s) .refusal ≡ r .refusal
 unfolding opening
-open-number s sheet k =
-    by-opening sheet s (λ (x : Check). outcome x s (sheetRecord sheet) .refusal ≡ outcome x (lentOf s) (sheetRecord sheet) .refusal) (λ n p. refl) (λ e. refl)
+open-number s sheet os k =
+    by-opening sheet (lending os s) (λ (x : Check). outcome x (lending os s) (sheetRecord sheet os) .refusal ≡ outcome x (lentOf s os) (sheetRecord sheet os) .refusal) (λ n p. refl) (λ e. refl)
     ∙ sym (k .refusal-is)
+
+-- an accepted one leaves its own record
+pub open-accepted : (s : Reach) (f : Free) (sheet : List ℕ) (list : List Outlet) → opening sheet (lending (loaded list) s) .refusal ≡ 0 → next s f (openCall sheet list) ≡ opening sheet (lending (loaded list) s) .reach
+open-accepted s f sheet list e = rw (eq-eqb _ _ e) refl

@@ -1,23 +1,27 @@
 -- Document 01, 'The list of demand 3 and its tally': the tally, a machine of its own. It is fed the sheet and, call by call, which call it is
--- and its free arguments; it takes nothing from the columns, boundaries, ledger or answers of the program.
+-- and its free arguments; it takes nothing from the columns, boundaries, ledger or answers of the program. Document 02, point 1: it 'takes the list
+-- as lent to the opening and the wants of each call, keeps drawn water and totals of its own from 0 by these rules'.
 use mathlib.Core.Bool.{cond}
 use mathlib.Core.List.{List, [], _∷_}
 use Prim.Native.Nat.{ℕ, _+_, _-_, _*_}
 use lib.Dec.{eqb}
 use lib.IntN.{ℤ, negℤ}
 use Rattle.numbers.specs.Signed.{positive}
-use Rattle.mass.specs.Transport.{leftShare, rightShare}
-use Rattle.reach.specs.Reach.{Reach, reachOf, cells, carriedAt, leftBoundary, rightBoundary, withLedger}
+use Rattle.outlet.specs.Outlets.{outletAt, eachOutlet, loaded}
+use Rattle.outlet.specs.declared.Outlet.{Outlet}
+use Rattle.outlet.specs.declared.Outlets.{Outlets}
+use Rattle.mass.specs.Transport.{leftShare, rightShare, outletShare}
+use Rattle.reach.specs.Reach.{Reach, reachOf, cells, carriedAt, leftBoundary, rightBoundary, withTotals}
 use Rattle.reach.specs.declared.boundary.Boundary.{Boundary}
 use Rattle.reach.specs.declared.ledger.Ledger.{Ledger}
 use Rattle.transport.specs.Calls.{massColumnsOf, afterTransport, holding}
-use Rattle.water.specs.Water.{netAt}
+use Rattle.water.specs.Water.{netAt, drawOf}
 use Rattle.update.specs.Step.{keepsSums, afterStep}
 use Rattle.sheet.specs.Header.{boundariesOf}
 use Rattle.sheet.specs.Opening.{sheetRecord}
-use Rattle.tally.specs.Call.{Free, Call, Entry, stepCall, transportCall, boundariesCall, greatestCall, writeCall, openCall, refusalOf}
+use Rattle.tally.specs.Call.{Free, Call, Entry, stepCall, transportCall, boundariesCall, greatestCall, writeCall, openCall, wanting, withWants, refusalOf}
 
--- an accepted step: the record that it was given, and its t
+-- an accepted step: the record that it was given, with the wants of the call, and its t
 pub record AcceptedStep : Type 0 where
   pub before : Reach
   pub time : ℕ
@@ -29,6 +33,8 @@ pub record Tally : Type 0 where
   pub own : Reach
   -- the sums, which serve as its ledger
   pub sums : Ledger
+  -- the outlets, with drawn water and totals of its own
+  pub outlets : Outlets
   -- the pairs of boundaries held or set since: that of the sheet and of every accepted setting
   pub held : List (List Boundary)
   -- the accepted steps of the list
@@ -76,11 +82,39 @@ addMass s k = record {
 unfoldable pub addStep : Reach → (t : ℕ) → Ledger → Ledger
 addStep s t k = addWater (netAt s t 0) (netAt s t (cells s)) (cond (keepsSums s t) k (addMass s k))
 
+-- ---- the outlets: each keeps its cell and its want
+
+-- accepted step: 'an outlet's water goes into its total at each step', and into what it has drawn since the settling
+unfoldable pub addDraws : Reach → (t : ℕ) → Outlets → Outlets
+addDraws s t os =
+    eachOutlet (λ k. let o = outletAt os k in record {
+      cell = o .cell;
+      want = o .want;
+      drawn = o .drawn + drawOf s t k;
+      water = o .water + drawOf s t k;
+      mass = o .mass;
+    }) os
+
+-- 'its nutrient at the settling', with the c and drawn water held before it: its share of its cell. Nothing is drawn since
+unfoldable pub addOutletMass : Reach → Outlets → Outlets
+addOutletMass s os =
+    eachOutlet (λ k. let o = outletAt os k in record {
+      cell = o .cell;
+      want = o .want;
+      drawn = 0;
+      water = o .water;
+      mass = o .mass + outletShare (massColumnsOf s) (o .cell) k;
+    }) os
+
+-- a step that transports first
+unfoldable pub addStepOutlets : Reach → (t : ℕ) → Outlets → Outlets
+addStepOutlets s t os = addDraws s t (cond (keepsSums s t) os (addOutletMass s os))
+
 -- ---- the machine
 
--- the record with the sums for its ledger
-abbrev pub withSums : Reach → Ledger → Reach
-withSums s k = reachOf (s .bed) (s .depth) (s .discharge) (s .mass) (s .base) (s .carried) (s .cellLength) (withLedger k (s .held))
+-- the record with the sums for its ledger, and the tally's own outlets
+abbrev pub withSums : Reach → Ledger → Outlets → Reach
+withSums s k os = reachOf (s .bed) (s .depth) (s .discharge) (s .mass) (s .base) (s .carried) (s .cellLength) (withTotals k os (s .held))
 
 -- sums start at 0
 abbrev pub noSums : Ledger
@@ -89,55 +123,87 @@ noSums = record {
   right = record { «water_in» = 0; «water_out» = 0; «mass_in» = 0; «mass_out» = 0 };
 }
 
+-- and so do drawn water and totals of the list lent to the opening
+unfoldable pub noDraws : (lent : Outlets) → Outlets
+noDraws os = eachOutlet (λ k. record { cell = outletAt os k .cell; want = outletAt os k .want; drawn = 0; water = 0; mass = 0 }) os
+
 -- it opens a record of its own from the sheet
-unfoldable pub start : (sheet : List ℕ) → Tally
-start sheet = record {
-  initial = sheetRecord sheet;
-  own = withSums (sheetRecord sheet) noSums;
+unfoldable pub start : (sheet : List ℕ) (lent : Outlets) → Tally
+start sheet os = record {
+  initial = sheetRecord sheet os;
+  own = withSums (sheetRecord sheet os) noSums (noDraws os);
   sums = noSums;
+  outlets = noDraws os;
   held = boundariesOf sheet ∷ [];
   steps = [];
 }
 
--- an accepted call moves its record by the rules, and adds to its sums
+-- the wants of a call: its record and its outlets take them, whether the call is then accepted or refused
+unfoldable pub takeWants : (wants : List ℕ) → Tally → Tally
+takeWants ws T = record {
+  initial = T .initial;
+  own = withWants ws (T .own);
+  sums = T .sums;
+  outlets = wanting ws (T .outlets);
+  held = T .held;
+  steps = T .steps;
+}
+
+-- an accepted call moves its record by the rules, and adds to its sums and to its outlets
 unfoldable pub countStep : Tally → (t : ℕ) → Tally
 countStep T t =
-    let k = addStep (T .own) t (T .sums) in record {
+    let k = addStep (T .own) t (T .sums) in
+    let os = addStepOutlets (T .own) t (T .outlets) in record {
       initial = T .initial;
-      own = withSums (afterStep (T .own) t) k;
+      own = withSums (afterStep (T .own) t) k os;
       sums = k;
+      outlets = os;
       held = T .held;
       steps = record { before = T .own; time = t } ∷ T .steps;
     }
 
 unfoldable pub countTransport : Tally → Tally
 countTransport T =
-    let k = addMass (T .own) (T .sums) in record {
+    let k = addMass (T .own) (T .sums) in
+    let os = addOutletMass (T .own) (T .outlets) in record {
       initial = T .initial;
-      own = withSums (afterTransport (T .own)) k;
+      own = withSums (afterTransport (T .own)) k os;
       sums = k;
+      outlets = os;
       held = T .held;
       steps = T .steps;
     }
 
 unfoldable pub countSetting : Tally → List Boundary → Tally
 countSetting T es =
-    let k = addMass (T .own) (T .sums) in record {
+    let k = addMass (T .own) (T .sums) in
+    let os = addOutletMass (T .own) (T .outlets) in record {
       initial = T .initial;
-      own = withSums (holding es (afterTransport (T .own))) k;
+      own = withSums (holding es (afterTransport (T .own))) k os;
       sums = k;
+      outlets = os;
       held = es ∷ T .held;
       steps = T .steps;
     }
 
--- what an accepted call makes of the tally; a greatest-step call and a write change nothing, an accepted opening starts another list
+-- the tally that a call meets: an opening has no wants
+abbrev pub given : Tally → Free → Call → Tally
+given T f (stepCall t) = takeWants (f .wants) T
+given T f transportCall = takeWants (f .wants) T
+given T f (boundariesCall es) = takeWants (f .wants) T
+given T f greatestCall = takeWants (f .wants) T
+given T f (writeCall room) = takeWants (f .wants) T
+given T f (openCall sheet os) = T
+
+-- what an accepted call makes of the tally that it met; a greatest-step call and a write change nothing, an accepted opening starts another list,
+-- with the list lent to it
 abbrev pub accepted : Tally → Free → Call → Tally
 accepted T f (stepCall t) = countStep T t
 accepted T f transportCall = countTransport T
 accepted T f (boundariesCall es) = countSetting T es
 accepted T f greatestCall = T
 accepted T f (writeCall room) = T
-accepted T f (openCall sheet) = start sheet
+accepted T f (openCall sheet os) = start sheet (loaded os)
 
 -- a refused call changes nothing
 unfoldable pub ifAccepted : (refusal : ℕ) → (accepted T : Tally) → Tally
@@ -145,7 +211,7 @@ ifAccepted n U T = cond (eqb n 0) U T
 
 -- it reads each call's grounds for refusal on its own record
 unfoldable pub count : Tally → Free → Call → Tally
-count T f c = ifAccepted (refusalOf (T .own) f c) (accepted T f c) T
+count T f c = ifAccepted (refusalOf (T .own) f c) (accepted (given T f c) f c) (given T f c)
 
 unfoldable pub run : Tally → List Entry → Tally
 run T [] = T

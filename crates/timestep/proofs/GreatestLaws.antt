@@ -115,3 +115,12 @@ pub dry-reach : (s : Reach) → ((i : ℕ) → depthAt s i ≡ 0) → (leftBound
 unfolding greatestPlace greatestTime
 dry-reach s dry left right =
     all-dry (placeSpeed s) (cells s + 1) (s .cellLength) (λ i l. dry-speed s dry left right i)
+
+-- all that is held comes back as it came, of a refused call too
+pub greatest-held : (s : Reach) → greatest s .held ≡ s .held
+unfolding greatest
+greatest-held s = go (firstRefusal (recordGrounds s (s .held .boundaries)))
+  where
+    go : (v : Check) → greatestBy v s .held ≡ s .held
+    go Pass = refl
+    go (Refused _) = refl

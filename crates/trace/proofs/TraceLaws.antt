@@ -1,51 +1,81 @@
 -- A chain of the functions' contracts is a list of the definitions' calls, so what holds of these holds of it; and every list has its chain.
 use mathlib.Core.Path.{_≡_, refl, sym, ap, _∙_, subst}
+use mathlib.Core.Bool.{Bool, true, false, cond}
 use mathlib.Core.List.{List, [], _∷_}
-use Prim.Native.Nat.{ℕ}
+use Prim.Native.Nat.{ℕ, _<_, _≤_}
+use native.Mathlib.Omega.{arith}
+use borrow.Author.Tests.{ltb-true, ltb-false}
 use contract.Lifetimes.{Lfts}
 use denote.Ref.{RefT, now}
-use lib.IntN.{ℤ}
-use lib.ListN.{length, replicate, length-replicate}
+use lib.Dec.{eqb, ltb}
+use lib.ListN.{length, getD, replicate, length-replicate, List·getD-eq-default}
+use lib.Seq.{ext-getD}
+use Rattle.numbers.proofs.IndexLaws.{getD-tabulate}
+use Rattle.outlet.specs.Outlets.{outletsMost, noOutlet, outletAt, over, loaded}
+use Rattle.outlet.specs.declared.Outlet.{Outlet}
+use Rattle.outlet.specs.declared.Outlets.{Outlets}
+use Rattle.outlet.proofs.LentLaws.{AsLoaded, length-loaded, outlet-loaded, loaded-as-loaded, each-at-room, each-as-loaded, loaded-over}
 use Rattle.reach.specs.Reach.{Reach}
 use Rattle.reach.specs.Grounds.{numberOf}
 use Rattle.reach.specs.Outcome.{Outcome}
 use Rattle.reach.specs.declared.boundary.Boundary.{Boundary}
+use Rattle.reach.specs.declared.held.Held.{Held}
 use Rattle.transport.specs.Calls.{transport, setBoundaries, CameTo}
+use Rattle.transport.specs.declared.TransportAnswer.{TransportAnswer}
+use Rattle.transport.proofs.CallsLaws.{left-by-transport, left-by-setting}
+use Rattle.transport.proofs.LoadedLaws.{transport-as-loaded, setting-as-loaded}
 use Rattle.timestep.specs.GreatestStep.{greatest}
 use Rattle.timestep.specs.declared.GreatestAnswer.{GreatestAnswer}
+use Rattle.timestep.proofs.GreatestLaws.{greatest-held}
 use Rattle.update.specs.Step.{step, transports}
+use Rattle.update.proofs.LoadedLaws.{step-as-loaded}
 use Rattle.stepping.specs.StepCall.{StepCameTo}
-use Rattle.sheet.specs.Opening.{noneHeld, opening, OpenCameTo}
+use Rattle.stepping.specs.declared.step.StepAnswer.{StepAnswer}
+use Rattle.stepping.proofs.StepCallLaws.{left-by-step}
+use Rattle.sheet.specs.Opening.{opening, lent, OpenCameTo}
 use Rattle.sheet.specs.declared.opening.OpenAnswer.{OpenAnswer}
+use Rattle.sheet.proofs.LoadedLaws.{opening-as-loaded}
 use Rattle.writing.specs.Writing.{writeRefusal, outputAfter}
-use Rattle.tally.specs.Call.{Free, Call, Entry, stepCall, transportCall, boundariesCall, greatestCall, writeCall, openCall, refusalOf, next, final, goesOn}
+use Rattle.tally.specs.Call.{Free, Call, Entry, stepCall, transportCall, boundariesCall, greatestCall, writeCall, openCall, wantingOutlet, wanting, lending, withWants, refusalOf, next, final}
 use Rattle.tally.specs.Tally.{start, run}
-use Rattle.tally.specs.Holds.{Holds, OfDefinitions}
-use Rattle.tally.proofs.CallLaws.{step-next, transport-next, setting-next, greatest-next, write-next, open-next, open-number}
+use Rattle.tally.specs.Holds.{Holds}
+use Rattle.tally.proofs.CallLaws.{open-next, open-number, open-accepted}
 use Rattle.tally.proofs.TallyLaws.{of-definitions}
+use Rattle.jemmyfern_c.specs.Answers.{openedOf, steppedOf, transportedOf, greatestOf, openWith}
 use Rattle.jemmyfern_c.proofs.Functions.{Lent, given}
-use Rattle.trace.specs.Trace.{StepLink, TransportLink, BoundariesLink, GreatestLink, WriteLink, OpenLink, Link, Chain, done, then, Demand3, EveryChain, EveryCall, answer, SameAnswer}
+use Rattle.jemmyfern_c.proofs.Returns.{step-returns, transport-returns, setting-returns, opening-returns, greatest-returns}
+use Rattle.trace.specs.Trace.{StepLink, TransportLink, BoundariesLink, GreatestLink, WriteLink, OpenLink, Link, Chain, done, then, Demand3, EveryChain, EveryCall, wantsOf, EveryWants, answer, SameAnswer}
 
 -- the record that a link was given
 abbrev of : Lent → Reach → Reach
 of l s = given l (s .cellLength) (s .held)
 
--- an opening gives the record that the definition says
-opened : {s s' : Reach} {sheet : List ℕ} → OpenLink s sheet s' → s' ≡ opening sheet s .reach
-opened {s} {s'} {sheet} k =
-    k .left
-    ∙ open-next (of (k .l) s) _ (k .ensured)
-    ∙ ap (λ (x : Reach). opening (now (k .bytes)) x .reach) (sym (k .lends))
-    ∙ ap (λ (b : List ℕ). opening b s .reach) (sym (k .fed))
+-- what is lent to an opening
+abbrev columns : Reach → Outlets → Reach
+columns s os = lent (s .bed) (s .depth) (s .discharge) (s .mass) (s .base) (s .carried) os
 
--- each contract gives the record that `next` says, of the record that was given; and that was s
+-- an opening came out as the definition says, of the columns of s and the list
+open-came : {s s' : Reach} {sheet : List ℕ} {outlets : List Outlet} → (k : OpenLink s sheet outlets s')
+    → OpenCameTo (opening sheet (columns s (loaded outlets))) (openWith (k .r) (k .e .outlets)) (k .e .bed) (k .e .depth) (k .e .discharge) (k .e .mass) (k .e .base) (k .e .carried)
+open-came {s} {s'} {sheet} {outlets} k =
+    let to : Outcome → Type 0 = λ o. OpenCameTo o (openWith (k .r) (k .e .outlets)) (k .e .bed) (k .e .depth) (k .e .discharge) (k .e .mass) (k .e .base) (k .e .carried) in
+    subst (λ (b : List ℕ). to (opening b (columns s (loaded outlets)))) (sym (k .fed))
+    (subst (λ (x : Reach). to (opening (now (k .bytes)) (columns x (x .held .outlets)))) (sym (k .lends)) (k .ensured .0))
+
+opened : {s s' : Reach} {sheet : List ℕ} {outlets : List Outlet} (f : Free) → OpenLink s sheet outlets s' → s' ≡ next s f (openCall sheet outlets)
+opened {s} {s'} {sheet} {outlets} f k = k .left ∙ open-next s f sheet outlets (open-came k)
+
+-- each contract gives the record that `next` says, of the record that was given; and that was s with the wants
 pub link : (s : Reach) (f : Free) (c : Call) (s' : Reach) → Link s f c s' → s' ≡ next s f c
-link s f (stepCall t) s' k = k .left ∙ step-next (of (k .l) s) f t (k .ensured) ∙ ap (λ (x : Reach). next x f (stepCall t)) (sym (k .lends))
-link s f transportCall s' k = k .left ∙ transport-next (of (k .l) s) f (k .ensured) ∙ ap (λ (x : Reach). next x f transportCall) (sym (k .lends))
-link s f (boundariesCall es) s' k = k .left ∙ setting-next (of (k .l) s) f es (k .ensured) ∙ ap (λ (x : Reach). next x f (boundariesCall es)) (sym (k .lends))
-link s f greatestCall s' k = k .left ∙ greatest-next (of (k .l) s) f (k .ensured) ∙ ap (λ (x : Reach). next x f greatestCall) (sym (k .lends))
-link s f (writeCall room) s' k = k .left ∙ write-next (of (k .l) s) f room (k .ensured) ∙ ap (λ (x : Reach). next x f (writeCall room)) (sym (k .lends))
-link s f (openCall sheet) s' k = opened k
+link s f (stepCall t) s' k = k .left ∙ left-by-step (of (k .l) s) t (k .ensured .0) ∙ ap (λ (x : Reach). step x t .reach) (sym (k .lends))
+link s f transportCall s' k = k .left ∙ left-by-transport (of (k .l) s) (k .ensured .0) ∙ ap (λ (x : Reach). transport x .reach) (sym (k .lends))
+link s f (boundariesCall es) s' k = k .left ∙ left-by-setting (of (k .l) s) es (k .ensured .0) ∙ ap (λ (x : Reach). setBoundaries x es .reach) (sym (k .lends))
+link s f greatestCall s' k =
+    k .left
+    ∙ ap (λ (h : Held). given (k .l) (s .cellLength) h) (ap (λ (r : GreatestAnswer). r .held) (k .ensured) ∙ greatest-held (of (k .l) s))
+    ∙ sym (k .lends)
+link s f (writeCall room) s' k = k .left ∙ ap (λ (h : Held). given (k .l) (s .cellLength) h) (k .ensured .held-is) ∙ sym (k .lends)
+link s f (openCall sheet outlets) s' k = opened f k
 
 chain : {s s' : Reach} {es : List Entry} → Chain s es s' → s' ≡ final s es
 unfolding final
@@ -53,34 +83,86 @@ chain (done {s}) = refl
 chain (then {s} {s'} {s''} {e} {es} l k) = chain k ∙ ap (λ (x : Reach). final x es) (link s (e .free) (e .call) s' l)
 
 -- an opening's number is the definition's
-pub number : {s s' : Reach} {sheet : List ℕ} → (k : OpenLink s sheet s') → opening sheet s .refusal ≡ k .r .refusal
-number {s} {s'} {sheet} k =
-    ap (λ (x : Reach). opening sheet x .refusal) (k .lends)
-    ∙ ap (λ (b : List ℕ). opening b (of (k .l) s) .refusal) (k .fed)
-    ∙ open-number (of (k .l) s) _ (k .ensured)
+pub number : {s s' : Reach} {sheet : List ℕ} {outlets : List Outlet} → (k : OpenLink s sheet outlets s') → opening sheet (lending (loaded outlets) s) .refusal ≡ k .r .refusal
+number {s} {s'} {sheet} {outlets} k = open-number s sheet (loaded outlets) (open-came k)
+
+-- one that is accepted leaves the record that the definition says
+pub first-opened : {s s' : Reach} {sheet : List ℕ} {outlets : List Outlet} → (k : OpenLink s sheet outlets s') → k .r .refusal ≡ 0 → s' ≡ opening sheet (lending (loaded outlets) s) .reach
+first-opened {s} {s'} {sheet} {outlets} k e =
+    let f : Free = record { wants = [] } in
+    opened f k ∙ open-accepted s f sheet outlets (number k ∙ e)
 
 pub demand-3 : Demand3
-demand-3 sheet es before now after first e rest =
-    subst (Holds (run (start sheet) es)) (sym (chain rest ∙ ap (λ (x : Reach). final x es) (opened first)))
-    (of-definitions sheet before es (number first ∙ e))
+demand-3 sheet outlets es before opened after first e rest =
+    subst (Holds (run (start sheet (loaded outlets)) es)) (sym (chain rest ∙ ap (λ (x : Reach). final x es) (first-opened first e)))
+    (of-definitions sheet (lending (loaded outlets) before) es (number first ∙ e))
 
 -- ---- the program's answer is the tally's own finding
 
 pub answer-is : (s : Reach) (f : Free) (c : Call) (s' : Reach) → (k : Link s f c s') → answer s f c s' k ≡ refusalOf s f c
-answer-is s f (stepCall t) s' k = k .ensured .refusal-is ∙ ap (λ (x : Reach). refusalOf x f (stepCall t)) (sym (k .lends))
-answer-is s f transportCall s' k = k .ensured .refusal-is ∙ ap (λ (x : Reach). refusalOf x f transportCall) (sym (k .lends))
-answer-is s f (boundariesCall new) s' k = k .ensured .refusal-is ∙ ap (λ (x : Reach). refusalOf x f (boundariesCall new)) (sym (k .lends))
-answer-is s f greatestCall s' k =
-    ap (λ (r : GreatestAnswer). r .refusal) (k .ensured) ∙ ap (λ (x : Reach). refusalOf x f greatestCall) (sym (k .lends))
+answer-is s f (stepCall t) s' k = k .ensured .0 .refusal-is ∙ ap (λ (x : Reach). step x t .refusal) (sym (k .lends))
+answer-is s f transportCall s' k = k .ensured .0 .refusal-is ∙ ap (λ (x : Reach). transport x .refusal) (sym (k .lends))
+answer-is s f (boundariesCall new) s' k = k .ensured .0 .refusal-is ∙ ap (λ (x : Reach). setBoundaries x new .refusal) (sym (k .lends))
+answer-is s f greatestCall s' k = ap (λ (r : GreatestAnswer). r .refusal) (k .ensured) ∙ ap (λ (x : Reach). greatest x .refusal) (sym (k .lends))
 answer-is s f (writeCall room) s' k =
     k .ensured .refusal-is
-    ∙ ap (λ (n : ℕ). refusalOf (of (k .l) s) f (writeCall n)) (sym (k .long))
-    ∙ ap (λ (x : Reach). refusalOf x f (writeCall room)) (sym (k .lends))
-answer-is s f (openCall sheet) s' k = sym (number k)
+    ∙ ap (λ (n : ℕ). numberOf (writeRefusal (of (k .l) s) n)) (sym (k .long))
+    ∙ ap (λ (x : Reach). numberOf (writeRefusal x room)) (sym (k .lends))
+answer-is s f (openCall sheet outlets) s' k = sym (number k)
 
 pub same-answer : SameAnswer
-same-answer sheet es before opened s s' f c first z rest k =
-    answer-is s f c s' k ∙ ap (λ (x : Reach). refusalOf x f c) (demand-3 sheet es before opened s first z rest .own)
+same-answer sheet outlets es before opened s s' f c first z rest k =
+    answer-is s f c s' k ∙ ap (λ (x : Reach). refusalOf x f c) (demand-3 sheet outlets es before opened s first z rest .own)
+
+-- ---- the outlets of a record along a list are those of a lent list
+
+pub record OfList (s : Reach) : Type 0 where
+  pub count : ℕ
+  pub loads : AsLoaded count (s .held .outlets)
+
+pub of-list : (s : Reach) (outlets : List Outlet) → s .held .outlets ≡ loaded outlets → OfList s
+of-list s outlets e = record { count = length outlets; loads = subst (AsLoaded (length outlets)) (sym e) (loaded-as-loaded outlets) }
+
+wanting-as-loaded : (n : ℕ) (ws : List ℕ) (os : Outlets) → AsLoaded n os → AsLoaded n (wanting ws os)
+unfolding wanting
+wanting-as-loaded n ws os a = each-as-loaded n _ os a
+
+next-as-loaded : (s : Reach) (f : Free) (c : Call) (n : ℕ) → AsLoaded n (withWants (f .wants) s .held .outlets) → AsLoaded n (s .held .outlets) → OfList (next s f c)
+next-as-loaded s f (stepCall t) n w a = record { count = n; loads = step-as-loaded n (withWants (f .wants) s) t w }
+next-as-loaded s f transportCall n w a = record { count = n; loads = transport-as-loaded n (withWants (f .wants) s) w }
+next-as-loaded s f (boundariesCall new) n w a = record { count = n; loads = setting-as-loaded n (withWants (f .wants) s) w new }
+next-as-loaded s f greatestCall n w a = record { count = n; loads = w }
+next-as-loaded s f (writeCall room) n w a = record { count = n; loads = w }
+next-as-loaded s f (openCall sheet outlets) n w a = go (eqb (o .refusal) 0)
+  where
+    o : Outcome
+    o = opening sheet (lending (loaded outlets) s)
+
+    go : (b : Bool) → OfList (cond b (o .reach) s)
+    go true = record { count = length outlets; loads = opening-as-loaded (length outlets) sheet (lending (loaded outlets) s) (loaded-as-loaded outlets) }
+    go false = record { count = n; loads = a }
+
+pub next-of-list : (s : Reach) (f : Free) (c : Call) → OfList s → OfList (next s f c)
+next-of-list s f c k = next-as-loaded s f c (k .count) (wanting-as-loaded (k .count) (f .wants) (s .held .outlets) (k .loads)) (k .loads)
+
+pub final-of-list : (s : Reach) (es : List Entry) → OfList s → OfList (final s es)
+unfolding final
+final-of-list s [] k = k
+final-of-list s (e ∷ es) k = final-of-list (next s (e .free) (e .call)) es (next-of-list s (e .free) (e .call) k)
+
+pub opened-of-list : (sheet : List ℕ) (s : Reach) (outlets : List Outlet) → s .held .outlets ≡ loaded outlets → OfList (opening sheet s .reach)
+opened-of-list sheet s outlets e = let k = of-list s outlets e in record { count = k .count; loads = opening-as-loaded (k .count) sheet s (k .loads) }
+
+-- the list that a call is lent
+listOf : (s : Reach) → OfList s → (wants : List ℕ) → List Outlet
+listOf s k ws = over (wanting ws (s .held .outlets) .list) (replicate (k .count) noOutlet)
+
+listed : (s : Reach) (k : OfList s) (wants : List ℕ) → loaded (listOf s k wants) ≡ wanting wants (s .held .outlets)
+unfolding listOf
+listed s k ws =
+    loaded-over (replicate (k .count) noOutlet) (wanting ws (s .held .outlets))
+    (subst (λ (n : ℕ). AsLoaded n (wanting ws (s .held .outlets))) (sym (length-replicate (k .count) noOutlet))
+    (wanting-as-loaded (k .count) ws (s .held .outlets) (k .loads)))
 
 -- ---- every list has its chain
 
@@ -88,101 +170,166 @@ same-answer sheet es before opened s s' f c first z rest k =
 abbrev loan : {A : Type 0} → A → RefT A
 loan x = record { ptr = (0, 0); name = 0; now = x }
 
-abbrev lent : Reach → Lent
-lent s = record { bed = loan (s .bed); depth = loan (s .depth); discharge = loan (s .discharge); mass = loan (s .mass); base = loan (s .base); carried = loan (s .carried) }
-
-abbrev six : Lfts 6
-six = ([], ([], ([], ([], ([], ([], tt))))))
+abbrev lentWith : Reach → List Outlet → Lent
+lentWith s os = record { bed = loan (s .bed); depth = loan (s .depth); discharge = loan (s .discharge); mass = loan (s .mass); base = loan (s .base); carried = loan (s .carried); outlets = loan os }
 
 abbrev seven : Lfts 7
-seven = ([], six)
+seven = ([], ([], ([], ([], ([], ([], ([], tt)))))))
+
+abbrev eight : Lfts 8
+eight = ([], seven)
 
 -- an opening's columns are lent as those of any record
-pub made-opening : (s : Reach) (sheet : List ℕ) → OpenLink s sheet (opening sheet s .reach)
-made-opening s sheet =
-    let o = opening sheet (given (lent s) 0 noneHeld) in
-    let k : OpenCameTo o (record { refusal = o .refusal; «cell_length» = o .reach .cellLength; held = o .reach .held }) (o .reach .bed) (o .reach .depth) (o .reach .discharge) (o .reach .mass) (o .reach .base) (o .reach .carried)
+pub made-opening : (s : Reach) (f : Free) (sheet : List ℕ) (outlets : List Outlet) → OpenLink s sheet outlets (next s f (openCall sheet outlets))
+made-opening s f sheet outlets =
+    let o = opening sheet (columns s (loaded outlets)) in
+    let a : OpenAnswer = record { refusal = o .refusal; «cell_length» = o .reach .cellLength; held = o .reach .held } in
+    let came : OpenCameTo o a (o .reach .bed) (o .reach .depth) (o .reach .discharge) (o .reach .mass) (o .reach .base) (o .reach .carried)
     = record { refusal-is = refl; length-is = refl; held-is = refl; bed-is = refl; depth-is = refl; discharge-is = refl; mass-is = refl; base-is = refl; carried-is = refl } in
+    let room : List Outlet = o .reach .held .outlets .list in
+    let k =
+    opening-returns sheet (s .bed) (s .depth) (s .discharge) (s .mass) (s .base) (s .carried) outlets (over room outlets) room (loaded outlets)
+    (o .reach .bed) (o .reach .depth) (o .reach .discharge) (o .reach .mass) (o .reach .base) (o .reach .carried) a (openedOf a) refl came refl refl refl in
     record {
-      κs = seven;
+      κs = eight;
       bytes = loan sheet;
       fed = refl;
-      l = lent s;
+      l = lentWith s outlets;
       lends = refl;
-      r = record { refusal = o .refusal; «cell_length» = o .reach .cellLength; held = o .reach .held };
-      e = record { bed = o .reach .bed; depth = o .reach .depth; discharge = o .reach .discharge; mass = o .reach .mass; base = o .reach .base; carried = o .reach .carried };
+      r = openedOf a;
+      e = record { bed = o .reach .bed; depth = o .reach .depth; discharge = o .reach .discharge; mass = o .reach .mass; base = o .reach .base; carried = o .reach .carried; outlets = over room outlets };
       ensured = k;
-      left = sym (open-next s sheet k);
+      left = sym (open-next s f sheet outlets (k .0));
     }
 
-pub made-step : (s : Reach) (f : Free) (t : ℕ) → StepLink s f t (next s f (stepCall t))
-made-step s f t =
-    let o = step s t in
-    let k : StepCameTo s t (record { refusal = o .refusal; held = o .reach .held; transported = transports s t }) (o .reach .depth) (o .reach .discharge) (o .reach .mass) (o .reach .base) (o .reach .carried)
-    = record { refusal-is = refl; held-is = refl; transported-is = refl; depth-is = refl; discharge-is = refl; mass-is = refl; base-is = refl; carried-is = refl } in
-    record {
-      κs = six;
-      l = lent s;
-      lends = refl;
-      r = record { refusal = o .refusal; held = o .reach .held; transported = transports s t };
-      e = record { depth = o .reach .depth; discharge = o .reach .discharge; mass = o .reach .mass; base = o .reach .base; carried = o .reach .carried };
-      ensured = k;
-      left = sym (step-next s f t k);
-    }
+-- a call on s is lent a list os that has the wants of the call
+module _ (s : Reach) (f : Free) (os : List Outlet) (e : loaded os ≡ wanting (f .wants) (s .held .outlets)) where
+  abbrev g : Reach
+  g = of (lentWith s os) s
 
-came : (o : Outcome) → CameTo o (record { refusal = o .refusal; held = o .reach .held }) (o .reach .mass) (o .reach .base) (o .reach .carried)
-came o = record { refusal-is = refl; held-is = refl; mass-is = refl; base-is = refl; carried-is = refl }
+  lent-is : withWants (f .wants) s ≡ g
+  lent-is = ap (λ (x : Outlets). lending x s) (sym e)
 
-made : (s : Reach) (f : Free) (c : Call) → Link s f c (next s f c)
-made s f (stepCall t) = made-step s f t
-made s f transportCall =
-    let o = transport s in
-    record {
-      κs = six;
-      l = lent s;
-      lends = refl;
-      r = record { refusal = o .refusal; held = o .reach .held };
-      e = record { mass = o .reach .mass; base = o .reach .base; carried = o .reach .carried };
-      ensured = came o;
-      left = sym (transport-next s f (came o));
-    }
-made s f (boundariesCall new) =
-    let o = setBoundaries s new in
-    record {
-      κs = six;
-      l = lent s;
-      lends = refl;
-      r = record { refusal = o .refusal; held = o .reach .held };
-      e = record { mass = o .reach .mass; base = o .reach .base; carried = o .reach .carried };
-      ensured = came o;
-      left = sym (setting-next s f new (came o));
-    }
-made s f greatestCall = record { κs = six; l = lent s; lends = refl; r = greatest s; ensured = refl; left = sym (greatest-next s f refl) }
-made s f (writeCall room) =
-    let out : List ℕ = replicate room 0 in
-    record {
-      κs = seven;
-      l = lent s;
-      lends = refl;
-      out = loan out;
-      long = sym (length-replicate room 0);
-      r = record { refusal = numberOf (writeRefusal s (length out)); held = s .held };
-      written = outputAfter s out;
-      ensured = record { refusal-is = refl; held-is = refl; output-is = refl };
-      left = refl;
-    }
-made s f (openCall sheet) = made-opening s sheet
+  came : (o : Outcome) → CameTo o (record { refusal = o .refusal; held = o .reach .held }) (o .reach .mass) (o .reach .base) (o .reach .carried)
+  came o = record { refusal-is = refl; held-is = refl; mass-is = refl; base-is = refl; carried-is = refl }
+
+  step-made : (t : ℕ) → StepLink s f t (next s f (stepCall t))
+  step-made t =
+      let o = step g t in
+      let a : StepAnswer = record { refusal = o .refusal; held = o .reach .held; transported = transports g t } in
+      let came-to : StepCameTo g t a (o .reach .depth) (o .reach .discharge) (o .reach .mass) (o .reach .base) (o .reach .carried)
+      = record { refusal-is = refl; held-is = refl; transported-is = refl; depth-is = refl; discharge-is = refl; mass-is = refl; base-is = refl; carried-is = refl } in
+      let room : List Outlet = o .reach .held .outlets .list in
+      let k =
+      step-returns (s .bed) (s .depth) (s .discharge) (s .mass) (s .base) (s .carried) (s .cellLength) (s .held .boundaries) (s .held .ledger) os (over room os) room (loaded os) (g .held) t
+      (o .reach .depth) (o .reach .discharge) (o .reach .mass) (o .reach .base) (o .reach .carried) a (steppedOf a) refl refl came-to refl refl refl in
+      record {
+        κs = seven;
+        l = lentWith s os;
+        lends = lent-is;
+        r = steppedOf a;
+        e = record { depth = o .reach .depth; discharge = o .reach .discharge; mass = o .reach .mass; base = o .reach .base; carried = o .reach .carried; outlets = over room os };
+        ensured = k;
+        left = ap (λ (x : Reach). step x t .reach) lent-is ∙ sym (left-by-step g t (k .0));
+      }
+
+  transport-made : TransportLink s f (next s f transportCall)
+  transport-made =
+      let o = transport g in
+      let a : TransportAnswer = record { refusal = o .refusal; held = o .reach .held } in
+      let room : List Outlet = o .reach .held .outlets .list in
+      let k =
+      transport-returns (s .bed) (s .depth) (s .discharge) (s .mass) (s .base) (s .carried) (s .cellLength) (s .held .boundaries) (s .held .ledger) os (over room os) room (loaded os) (g .held)
+      (o .reach .mass) (o .reach .base) (o .reach .carried) a (transportedOf a) refl refl (came o) refl refl refl in
+      record {
+        κs = seven;
+        l = lentWith s os;
+        lends = lent-is;
+        r = transportedOf a;
+        e = record { mass = o .reach .mass; base = o .reach .base; carried = o .reach .carried; outlets = over room os };
+        ensured = k;
+        left = ap (λ (x : Reach). transport x .reach) lent-is ∙ sym (left-by-transport g (k .0));
+      }
+
+  setting-made : (new : List Boundary) → BoundariesLink s f new (next s f (boundariesCall new))
+  setting-made new =
+      let o = setBoundaries g new in
+      let a : TransportAnswer = record { refusal = o .refusal; held = o .reach .held } in
+      let room : List Outlet = o .reach .held .outlets .list in
+      let k =
+      setting-returns (s .bed) (s .depth) (s .discharge) (s .mass) (s .base) (s .carried) (s .cellLength) (s .held .boundaries) (s .held .ledger) os (over room os) room (loaded os) (g .held) new
+      (o .reach .mass) (o .reach .base) (o .reach .carried) a (transportedOf a) refl refl (came o) refl refl refl in
+      record {
+        κs = seven;
+        l = lentWith s os;
+        lends = lent-is;
+        r = transportedOf a;
+        e = record { mass = o .reach .mass; base = o .reach .base; carried = o .reach .carried; outlets = over room os };
+        ensured = k;
+        left = ap (λ (x : Reach). setBoundaries x new .reach) lent-is ∙ sym (left-by-setting g new (k .0));
+      }
+
+  greatest-made : GreatestLink s f (next s f greatestCall)
+  greatest-made =
+      let a = greatest g in record {
+        κs = seven;
+        l = lentWith s os;
+        lends = lent-is;
+        r = greatestOf a;
+        ensured = greatest-returns (s .bed) (s .depth) (s .discharge) (s .mass) (s .base) (s .carried) (s .cellLength) (s .held .boundaries) (s .held .ledger) os (loaded os) (g .held) a (greatestOf a) refl refl refl refl;
+        left = lent-is ∙ ap (λ (h : Held). given (lentWith s os) (s .cellLength) h) (sym (greatest-held g));
+      }
+
+  write-made : (room : ℕ) → WriteLink s f room (next s f (writeCall room))
+  write-made room =
+      let out : List ℕ = replicate room 0 in record {
+        κs = eight;
+        l = lentWith s os;
+        lends = lent-is;
+        out = loan out;
+        long = sym (length-replicate room 0);
+        r = record { refusal = numberOf (writeRefusal g (length out)); boundaries = s .held .boundaries; ledger = s .held .ledger };
+        written = outputAfter g out;
+        ensured = record { refusal-is = refl; held-is = refl; output-is = refl };
+        left = lent-is;
+      }
+
+pub made : (s : Reach) (f : Free) (c : Call) → OfList s → Link s f c (next s f c)
+made s f (stepCall t) k = step-made s f (listOf s k (f .wants)) (listed s k (f .wants)) t
+made s f transportCall k = transport-made s f (listOf s k (f .wants)) (listed s k (f .wants))
+made s f (boundariesCall new) k = setting-made s f (listOf s k (f .wants)) (listed s k (f .wants)) new
+made s f greatestCall k = greatest-made s f (listOf s k (f .wants)) (listed s k (f .wants))
+made s f (writeCall room) k = write-made s f (listOf s k (f .wants)) (listed s k (f .wants)) room
+made s f (openCall sheet outlets) k = made-opening s f sheet outlets
+
+pub every-list : (s : Reach) (es : List Entry) → OfList s → Chain s es (final s es)
+unfolding final
+every-list s [] k = done
+every-list s (e ∷ es) k = then (made s (e .free) (e .call) k) (every-list (next s (e .free) (e .call)) es (next-of-list s (e .free) (e .call) k))
 
 pub every-chain : EveryChain
-unfolding final
-every-chain s [] = done
-every-chain s (e ∷ es) = then (made s (e .free) (e .call)) (every-chain (next s (e .free) (e .call)) es)
+every-chain s outlets es e = every-list s es (of-list s outlets e)
 
--- so demand 3 says of every list, and not only of those that have a chain, what the tally's page says of the definitions
-pub of-every-list : OfDefinitions
-of-every-list sheet l es e =
-    let first = made-opening l sheet in
-    demand-3 sheet es l (opening sheet l .reach) (final (opening sheet l .reach) es) first (sym (number first) ∙ e) (every-chain (opening sheet l .reach) es)
+-- the first opening of a list, into columns that have the list with them
+pub made-first : (sheet : List ℕ) (s : Reach) (outlets : List Outlet) → s .held .outlets ≡ loaded outlets → opening sheet s .refusal ≡ 0 → OpenLink s sheet outlets (opening sheet s .reach)
+made-first sheet s outlets e z =
+    let f : Free = record { wants = [] } in
+    let same : lending (loaded outlets) s ≡ s = ap (λ (x : Outlets). lending x s) (sym e) in
+    subst (OpenLink s sheet outlets)
+    (open-accepted s f sheet outlets (ap (λ (x : Reach). opening sheet x .refusal) same ∙ z) ∙ ap (λ (x : Reach). opening sheet x .reach) same)
+    (made-opening s f sheet outlets)
+
+-- every opening that the definition accepts is one that the function does
+pub first-accepted : (sheet : List ℕ) (s s' : Reach) (outlets : List Outlet) → s .held .outlets ≡ loaded outlets → opening sheet s .refusal ≡ 0 → (k : OpenLink s sheet outlets s') → k .r .refusal ≡ 0
+first-accepted sheet s s' outlets e z k = sym (number k) ∙ ap (λ (x : Outlets). opening sheet (lending x s) .refusal) (sym e) ∙ z
+
+-- so demand 3 says of every list, and not only of those that have a chain, what the tally's page says of the definitions, with the outlets of a lent list
+pub of-every-list : (sheet : List ℕ) (s : Reach) (outlets : List Outlet) (es : List Entry) → s .held .outlets ≡ loaded outlets → opening sheet s .refusal ≡ 0
+    → Holds (run (start sheet (loaded outlets)) es) (final (opening sheet s .reach) es)
+of-every-list sheet s outlets es e z =
+    let first = made-first sheet s outlets e z in
+    demand-3 sheet outlets es s (opening sheet s .reach) (final (opening sheet s .reach) es) first (first-accepted sheet s (opening sheet s .reach) outlets e z first)
+    (every-list (opening sheet s .reach) es (opened-of-list sheet s outlets e))
 
 -- ---- every call is a link
 
@@ -197,3 +344,35 @@ every-call = record {
   opening = λ s κs sheet l r e lends ensured.
       record { κs = κs; bytes = sheet; fed = refl; l = l; lends = lends; r = r; e = e; ensured = ensured; left = refl };
 }
+
+-- ---- whatever wants
+
+-- one outlet of a list with other wants
+wanting-at : (left lent : List Outlet) (k : ℕ) → k < outletsMost → length lent ≡ length left
+    → ((i : ℕ) → i < length left → getD lent i noOutlet ≡ wantingOutlet (getD lent i noOutlet .want) (getD left i noOutlet))
+    → outletAt (wanting (wantsOf lent) (loaded left)) k ≡ outletAt (loaded lent) k
+unfolding wanting
+wanting-at left lent k q long same =
+    each-at-room (λ i. wantingOutlet (getD (wantsOf lent) i 0) (outletAt (loaded left) i)) (loaded left) k q
+    ∙ go (ltb k (length left)) refl
+    ∙ sym (outlet-loaded lent k q)
+  where
+    go : (b : Bool) → ltb k (length left) ≡ b → cond b (wantingOutlet (getD (wantsOf lent) k 0) (outletAt (loaded left) k)) (outletAt (loaded left) k) ≡ getD lent k noOutlet
+    go true e =
+        let l : k < length left = ltb-true k (length left) e in
+        ap (λ (w : ℕ). wantingOutlet w (outletAt (loaded left) k)) (getD-tabulate (length lent) (λ i. getD lent i noOutlet .want) k 0 (omega (arith, l, long)))
+        ∙ ap (λ (o : Outlet). wantingOutlet (getD lent k noOutlet .want) o) (outlet-loaded left k q)
+        ∙ sym (same k l)
+    go false e =
+        let l : length left ≤ k = ltb-false k (length left) e in
+        outlet-loaded left k q ∙ List·getD-eq-default left noOutlet {n = k} l ∙ sym (List·getD-eq-default lent noOutlet {n = k} (omega (arith, l, long)))
+
+pub every-wants : EveryWants
+every-wants left lent long same =
+    let w : AsLoaded (length left) (wanting (wantsOf lent) (loaded left)) = wanting-as-loaded (length left) (wantsOf lent) (loaded left) (loaded-as-loaded left) in
+    one (wanting (wantsOf lent) (loaded left)) (loaded lent) (w .counted ∙ sym long)
+    (ext-getD noOutlet (wanting (wantsOf lent) (loaded left) .list) (loaded lent .list) (w .long ∙ sym (length-loaded lent))
+    (λ k p. wanting-at left lent k (omega (arith, p, w .long)) long same))
+  where
+    one : (x y : Outlets) → x .count ≡ y .count → x .list ≡ y .list → x ≡ y
+    one x y e f = ap (λ (n : ℕ). record { count = n; list = x .list }) e ∙ ap (λ (l : List Outlet). record { count = y .count; list = l }) f

@@ -1,5 +1,5 @@
 // Demand 3: what holds after every list of calls of the delivered functions; that every list has its chain, and that the tally judges each call as the program does.
-ghost use Rattle.trace.specs.Trace.{Demand3, EveryChain, EveryCall, SameAnswer};
+ghost use Rattle.trace.specs.Trace.{Demand3, EveryChain, EveryCall, EveryWants, SameAnswer};
 
 // No effect: the crate is proved only with the theorem.
 pub fn demand_3()
@@ -9,6 +9,7 @@ pub fn demand_3()
 pub fn every_chain()
     ensures { λ _. ⌜ EveryChain ⌝ }
     ensures { λ _. ⌜ EveryCall ⌝ }
+    ensures { λ _. ⌜ EveryWants ⌝ }
 {}
 
 pub fn same_answer()

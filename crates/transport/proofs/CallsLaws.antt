@@ -8,34 +8,36 @@ use Prim.Native.Nat.{ℕ, zero, suc, _+_, _-_, _*_, _≤_, _<_}
 use native.Mathlib.Nat.{mul-le-mul, mul-le-mul-left, eq-or-lt-of-le}
 use native.Mathlib.Numerals.{add-one}
 use native.Mathlib.Omega.{arith}
-use borrow.Author.Tests.{eqb-true, eqb-false}
+use borrow.Author.Tests.{leb-true, eqb-true, eqb-false}
 use lib.Dec.{eqb}
 use lib.IntN.{ℤ, pos, _+ℤ_, _*ℤ_, negℤ, natAbs}
 use lib.Signed.{_≤ℤ_}
-use lib.ListN.{length, getD-replicate, length-replicate}
+use lib.ListN.{length, getD, getD-replicate, length-replicate}
+use Rattle.numbers.specs.Index.{sum, sumBelow, tabulate}
 use Rattle.numbers.specs.Signed.{positive}
-use Rattle.numbers.proofs.IndexLaws.{all-of, getD-tabulate, length-tabulate}
+use Rattle.numbers.proofs.IndexLaws.{all-of, all-at, getD-tabulate, length-tabulate, sum-tabulate, sum-add, sum-none}
 use Rattle.numbers.proofs.SignedLaws.{abs-parts, pos-le, le-pos, pos-below, lower-bound, upper-bound, sum-lower, sum-upper, times-sum}
 use Rattle.flux.specs.Limits.{depthMost, concentrationMost}
-use Rattle.mass.specs.Transport.{massColumns, rightwards, leftwards, movedCell}
-use Rattle.mass.specs.Ranges.{Ready, massMost}
-use Rattle.mass.proofs.TransportLaws.{waterRightwards, waterLeftwards, waterStayed, conserved, moved-all, moved-lo, moved-hi, leftwards-small, rightwards-small, leftwards-end}
-use Rattle.reach.specs.Limits.{wall}
-use Rattle.reach.specs.Reach.{Reach, reachOf, cells, depthAt, baseAt, massAt, carriedAt, leftBoundary, rightBoundary}
-use Rattle.reach.specs.Grounds.{firstRefusal, recordGrounds, boundariesFit, ledgerFits, numberOf, passOr}
+use Rattle.outlet.specs.Outlets.{outletAt}
+use Rattle.mass.specs.Transport.{MassColumns, massColumns, cellShares, outletShare, rightwards, leftwards, movedCell, movedOutlet, movedOutlets}
+use Rattle.mass.specs.Ranges.{Ready, OutletsReady, massMost, movedMass}
+use Rattle.mass.proofs.TransportLaws.{drawnMass, drawn-mass-sum, ready-alone, rightwards-alone, leftwards-alone, moved-alone, waterRightwards, waterLeftwards, waterStayed, conserved, moved-all, moved-lo, moved-hi, leftwards-small, rightwards-small, leftwards-end}
+use Rattle.reach.specs.Limits.{wall, cellsMost}
+use Rattle.reach.specs.Reach.{Reach, reachOf, cells, depthAt, baseAt, massAt, carriedAt, leftBoundary, rightBoundary, withBoundaries}
+use Rattle.reach.specs.Grounds.{firstRefusal, recordGrounds, boundariesFit, outletsFit, outletTotalsFit, allTotalsFit, passOr}
 use Rattle.reach.specs.Outcome.{Outcome, outcome}
-use Rattle.reach.specs.Parts.{outflow}
-use Rattle.reach.specs.Balance.{massHeld, massIn, massOut, MassBalanced, everywhere, CellsWithin, BoundaryWithin, BoundariesWithin}
+use Rattle.reach.specs.Parts.{outflow, drawnFrom}
+use Rattle.reach.specs.Ranges.{alone, cutDrawn}
+use Rattle.reach.specs.Balance.{massHeld, massIn, massOut, outletMass, massGone, MassBalanced, everywhere, CellsWithin, BoundaryWithin, BoundariesWithin}
 use Rattle.reach.specs.declared.boundary.Boundary.{Boundary}
-use Rattle.reach.specs.declared.ledger.Ledger.{Ledger}
 use Rattle.reach.specs.declared.refusal.Check.{Check}
 use Rattle.reach.specs.declared.refusal.Check.the-variants.{Pass, Refused}
-use Rattle.reach.proofs.GroundsLaws.{passes, refuses, passed, refused-by, further, no-further, last-one, numbered, refused-number}
-use Rattle.reach.proofs.PartsLaws.{outflow-is}
-use Rattle.reach.proofs.Sound.{Sound, CarriedSound, none-carried, sound, given-fits, stands, boundary-sound}
-use Rattle.transport.specs.Calls.{enteringLeft, enteringRight, massColumnsOf, withMass, ledgerWith, transportLedger, afterTransport, transportGrounds, transport, holding, setBoundaries, CameTo, enteredCheck, enteredNumber, enteredLedger, EnteredTo}
+use Rattle.reach.proofs.GroundsLaws.{further, no-further, last-one, numbered, refused-number}
+use Rattle.reach.proofs.OutletLaws.{cut-same, each-fits, each-from, each-sum}
+use Rattle.reach.proofs.PartsLaws.{outflow-is, sum-single}
+use Rattle.reach.proofs.Sound.{Sound, CarriedSound, none-carried, outlets-few, outlet-sound, sound, given-fits, stands, boundary-sound}
+use Rattle.transport.specs.Calls.{enteringLeft, enteringRight, massColumnsOf, withMass, ledgerWith, transportLedger, transportOutlets, transportHeld, afterTransport, transportGrounds, transport, holding, setBoundaries, CameTo}
 use Rattle.transport.specs.Ranges.{massColumnsWith, BoundaryMassOf, Small}
-use Rattle.transport.specs.declared.Entered.{Entered}
 use Rattle.transport.specs.declared.TransportAnswer.{TransportAnswer}
 
 -- ---- what a sound record owes the functions
@@ -79,11 +81,65 @@ module _ (s : Reach) (k : Sound s) where
   }
 
   -- the columns with the concentrations, as the code has them
-  pub columns-with : massColumnsWith (s .mass) (s .base) (s .carried) (s .held .boundaries) ≡ massColumnsOf s
+  columns-with : massColumnsWith (s .mass) (s .base) (s .carried) (drawnFrom (s .held .outlets)) (s .held .boundaries) ≡ massColumnsOf s
   unfolding enteringLeft enteringRight
   columns-with =
-      ap (λ (n : ℕ). massColumns (s .mass) (s .base) (s .carried) (positive (carriedAt s 0) * leftBoundary (s .held .boundaries) .concentration) (positive (negℤ (carriedAt s n)) * rightBoundary (s .held .boundaries) .concentration))
+      ap (λ (n : ℕ). massColumns (s .mass) (s .base) (s .carried) (drawnFrom (s .held .outlets)) (positive (carriedAt s 0) * leftBoundary (s .held .boundaries) .concentration) (positive (negℤ (carriedAt s n)) * rightBoundary (s .held .boundaries) .concentration))
       (k .masses)
+
+  -- and with one number for what each cell's outlets have drawn
+  module _ (d : List ℕ) (e : d ≡ tabulate cellsMost (cutDrawn (s .held .outlets))) where
+    pub drawn-at : (i : ℕ) → i < cells s → getD d i 0 ≡ sum (drawnFrom (s .held .outlets) i)
+    drawn-at i j =
+        let w = k .water i j in
+        let os = s .held .outlets in
+        let few = outlets-few (cells s) os (k .outlets) in
+        ap (λ (c : List ℕ). getD c i 0) e ∙ getD-tabulate cellsMost (cutDrawn os) i 0 (omega (arith, j, k .few))
+        ∙ cut-same os few (positive (carriedAt s (i + 1)) + positive (negℤ (carriedAt s i))) (baseAt s i) i (k .cell i j .base) (omega (arith, w .covered, outflow-is (carriedAt s i) (carriedAt s (i + 1)) (drawnFrom os i)))
+
+    drawn-one : (i : ℕ) → i < length (s .mass) → sum (drawnFrom (s .held .outlets) i) ≡ sum (alone d i)
+    drawn-one i l = sym (drawn-at i (inside i l)) ∙ sum-single (getD d i 0)
+
+    pub drawn-long : length (s .mass) ≤ length d
+    drawn-long = omega (arith, k .masses, k .few, ap length e ∙ length-tabulate cellsMost (cutDrawn (s .held .outlets)))
+
+    pub ready-with : Ready (massColumnsWith (s .mass) (s .base) (s .carried) (alone d) (s .held .boundaries))
+    ready-with =
+        let r = subst Ready (sym columns-with) ready in
+        record { each = ready-alone (s .mass) (s .base) (s .carried) (drawnFrom (s .held .outlets)) (alone d) _ _ drawn-one (r .each); entering = r .entering }
+
+    pub crossed-with : {a b c o : ℕ} → BoundaryMassOf (massColumnsWith (s .mass) (s .base) (s .carried) (alone d) (s .held .boundaries)) a b c o → BoundaryMassOf (massColumnsOf s) a b c o
+    crossed-with {a} {b} {c} {o} x =
+        subst (λ (m : MassColumns). BoundaryMassOf m a b c o) columns-with
+        (record {
+          left-in = x .left-in;
+          left-out = x .left-out ∙ sym (leftwards-alone (s .mass) (s .base) (s .carried) (drawnFrom (s .held .outlets)) (alone d) _ _ drawn-one 0);
+          right-in = x .right-in;
+          right-out = x .right-out ∙ sym (rightwards-alone (s .mass) (s .base) (s .carried) (drawnFrom (s .held .outlets)) (alone d) _ _ drawn-one (length (s .mass)));
+        })
+
+    module _ {a c : ℕ} (left : a ≡ enteringLeft s) (right : c ≡ enteringRight s) where
+      pub ready-entering : Ready (massColumns (s .mass) (s .base) (s .carried) (alone d) a c)
+      ready-entering = rw (left, right) (record { each = ready-alone (s .mass) (s .base) (s .carried) (drawnFrom (s .held .outlets)) (alone d) _ _ drawn-one (ready .each); entering = ready .entering })
+
+      pub moved-entering : movedMass (massColumns (s .mass) (s .base) (s .carried) (alone d) a c) ≡ movedMass (massColumnsOf s)
+      moved-entering = rw (left, right) (sym (moved-alone (s .mass) (s .base) (s .carried) (drawnFrom (s .held .outlets)) (alone d) _ _ drawn-one))
+
+  -- and to move the outlets' mass
+  pub outlets-ready : OutletsReady (s .mass) (s .base) (s .carried) (s .held .outlets)
+  unfolding allTotalsFit outletTotalsFit
+  outlets-ready =
+      let totals = all-of _ (k .totals) 1 in record {
+        few = outlets-few (cells s) (s .held .outlets) (k .outlets);
+        cells = omega (arith, k .masses, k .few);
+        inside = λ j l. omega (arith, k .masses, outlet-sound (cells s) (s .held .outlets) (k .outlets) j l .cell);
+        totals = λ j l. leb-true _ _ (all-of _ (all-at (λ n. outletTotalsFit (outletAt (s .held .outlets) n)) (s .held .outlets .count) j totals l) 1);
+        each = λ i. let r = ready .each i in record { bases = r .bases; interfaces = r .interfaces; giving = λ l. r .giving l; entering = omega arith };
+      }
+
+  pub outlets-are : movedOutlets (massColumns (s .mass) (s .base) (s .carried) (drawnFrom (s .held .outlets)) 0 0) (s .held .outlets) ≡ transportOutlets s
+  unfolding transportOutlets movedOutlets movedOutlet cellShares
+  outlets-are = refl
 
   pub small : (a b c d : ℕ) → BoundaryMassOf (massColumnsOf s) a b c d → Small a b c d
   small a b c d x =
@@ -110,66 +166,57 @@ module _ (s : Reach) (es : List Boundary) where
   stopped n e = ap (λ (k : Check). outcome k s (holding es (afterTransport s))) (no-further (recordGrounds s es) _ n e)
 
   module _ (e : firstRefusal (recordGrounds s es) ≡ Pass) where
-    at-last : (t : Bool) → ledgerFits (transportLedger s) ≡ t → firstRefusal (transportGrounds s es) ≡ passOr 13 t
+    at-last : (t : Bool) → allTotalsFit (transportHeld s) ≡ t → firstRefusal (transportGrounds s es) ≡ passOr 13 t
     at-last t f = further (recordGrounds s es) _ e ∙ last-one 13 _ ∙ ap (passOr 13) f
 
-    pub full : ledgerFits (transportLedger s) ≡ false → setBoundaries s es ≡ record { refusal = 13; reach = s }
+    pub full : allTotalsFit (transportHeld s) ≡ false → setBoundaries s es ≡ record { refusal = 13; reach = s }
     unfolding setBoundaries
     full f = ap (λ (k : Check). outcome k s (holding es (afterTransport s))) (at-last false f)
 
-    pub accepted : ledgerFits (transportLedger s) ≡ true → setBoundaries s es ≡ record { refusal = 0; reach = holding es (afterTransport s) }
+    pub accepted : allTotalsFit (transportHeld s) ≡ true → setBoundaries s es ≡ record { refusal = 0; reach = holding es (afterTransport s) }
     unfolding setBoundaries
     accepted f = ap (λ (k : Check). outcome k s (holding es (afterTransport s))) (at-last true f)
 
   -- every statement about the outcome, by the three ways it can go
   pub by-outcome : (P : Outcome → Type 0)
       → ((n : ℕ) → 0 < n → P (record { refusal = n; reach = s }))
-      → (Sound s → boundariesFit es ≡ true → ledgerFits (transportLedger s) ≡ true → P (record { refusal = 0; reach = holding es (afterTransport s) }))
+      → (Sound s → boundariesFit es ≡ true → allTotalsFit (transportHeld s) ≡ true → P (record { refusal = 0; reach = holding es (afterTransport s) }))
       → P (setBoundaries s es)
-  by-outcome P stays moves = go (firstRefusal (recordGrounds s es)) refl (ledgerFits (transportLedger s)) refl
+  by-outcome P stays moves = go (firstRefusal (recordGrounds s es)) refl (allTotalsFit (transportHeld s)) refl
     where
-      go : (k : Check) → firstRefusal (recordGrounds s es) ≡ k → (t : Bool) → ledgerFits (transportLedger s) ≡ t → P (setBoundaries s es)
+      go : (k : Check) → firstRefusal (recordGrounds s es) ≡ k → (t : Bool) → allTotalsFit (transportHeld s) ≡ t → P (setBoundaries s es)
       go Pass p true q = subst P (sym (accepted p q)) (moves (sound s es p) (given-fits s es p) q)
       go Pass p false q = subst P (sym (full p q)) (stays 13 (omega arith))
       go (Refused n) p t q = subst P (sym (stopped n p)) (stays n (refused-number (recordGrounds s es) n (all-numbered s es) p))
 
--- ---- 13, as entering the ledger answers it
-
-module _ (k : Ledger) {l next : Ledger} (e : l ≡ next) where
-  pub enters : ledgerFits l ≡ true → EnteredTo k next (Entered.Accepted l)
-  enters f = rw (← e) (record { check-is = passes 13 f; ledger-is = rw f refl })
-
-  pub enters-not : ledgerFits l ≡ false → EnteredTo k next (Entered.Refused 13)
-  enters-not f = rw (← e) (record { check-is = refuses 13 f; ledger-is = rw f refl })
-
-module _ {k next : Ledger} {e : Entered} (w : EnteredTo k next e) where
-  pub entered-accepted : (l : Ledger) → e ≡ Entered.Accepted l → (ledgerFits next ≡ true) × (l ≡ next)
-  entered-accepted l q =
-      let f = passed 13 (ledgerFits next) (enteredCheck e) (w .check-is) (ap enteredCheck q) in
-      (f, sym (ap (enteredLedger k) q) ∙ w .ledger-is ∙ ap (λ (t : Bool). cond t next k) f)
-
-  pub entered-refused : (n : ℕ) → e ≡ Entered.Refused n → (ledgerFits next ≡ false) × (enteredNumber e ≡ 13)
-  entered-refused n q =
-      let f = refused-by 13 (ledgerFits next) (enteredCheck e) n (w .check-is) (ap enteredCheck q) in
-      (f, ap numberOf (w .check-is ∙ ap (passOr 13) f))
-
 -- ---- mass
 
 module _ (s : Reach) (k : Sound s) where
-  covered : (i : ℕ) → i < length (s .mass) → outflow (carriedAt s i) (carriedAt s (i + 1)) ≤ baseAt s i
+  covered : (i : ℕ) → i < length (s .mass) → outflow (carriedAt s i) (carriedAt s (i + 1)) (drawnFrom (s .held .outlets) i) ≤ baseAt s i
   covered i l = ready s k .each i .giving l .covered
 
   first-in : rightwards (massColumnsOf s) 0 ≡ enteringLeft s
   unfolding rightwards
   first-in = refl
 
+  -- what the outlets gain is what left the cells by them
+  outlets-gain : outletMass (transportOutlets s) ≡ outletMass (s .held .outlets) + sumBelow (length (s .mass)) (drawnMass (massColumnsOf s))
+  unfolding outletMass transportOutlets movedOutlets movedOutlet
+  outlets-gain =
+      let os = s .held .outlets in
+      let x = massColumnsOf s in
+      let ready = outlets-ready s k in
+      each-sum (movedOutlet x os) os (ready .few) (λ o. o .mass)
+      ∙ sum-add (os .count) (λ j. outletAt os j .mass) (λ j. outletShare x (outletAt os j .cell) j)
+      ∙ ap (λ (n : ℕ). sumBelow (os .count) (λ j. outletAt os j .mass) + n) (sym (drawn-mass-sum (s .mass) (s .base) (s .carried) os _ _ (ready .inside)))
+
   pub transport-balanced : MassBalanced s (afterTransport s)
-  unfolding MassBalanced massHeld massIn massOut afterTransport transportLedger ledgerWith withMass
+  unfolding MassBalanced massHeld massIn massOut massGone afterTransport transportHeld transportLedger ledgerWith withMass
   transport-balanced =
       let x = massColumnsOf s in
       let n = ap (rightwards x) (k .masses) in
       let l = leftwards-end x (length (s .mass)) (omega arith) in
-      omega (arith, first-in, conserved x covered)
+      omega (arith, first-in, outlets-gain, conserved x covered)
 
   -- what is measured of a cell afterwards is its new mass against its depth
   moved-at : (i : ℕ) → i < cells s → massAt (afterTransport s) i ≡ movedCell (massColumnsOf s) i
@@ -181,7 +228,7 @@ module _ (s : Reach) (k : Sound s) where
   base-at i = refl
 
   -- a cell that gave all its water holds what came from both sides
-  pub emptied-at : (i : ℕ) → i < cells s → outflow (carriedAt s i) (carriedAt s (i + 1)) ≡ baseAt s i
+  pub emptied-at : (i : ℕ) → i < cells s → outflow (carriedAt s i) (carriedAt s (i + 1)) (drawnFrom (s .held .outlets) i) ≡ baseAt s i
       → massAt (afterTransport s) i ≡ rightwards (massColumnsOf s) i + leftwards (massColumnsOf s) (i + 1)
   emptied-at i l e = moved-at i l ∙ moved-all (massColumnsOf s) concentrationMost i (k .cell i l .mass) e
 
@@ -243,7 +290,7 @@ module _ (s : Reach) (k : Sound s) where
     none-of i l c h = omega (arith, upper-at i l .1, mul-le-mul-left (positive (negℤ (hi (i + 1)))) h)
 
     gone : (i : ℕ) → i < cells s → (positive (carriedAt s (i + 1)) ≤ baseAt s i) × (positive (negℤ (carriedAt s i)) ≤ baseAt s i)
-    gone i l = let c = k .water i l .covered in let o = outflow-is (carriedAt s i) (carriedAt s (i + 1)) in (omega arith, omega arith)
+    gone i l = let c = k .water i l .covered in let o = outflow-is (carriedAt s i) (carriedAt s (i + 1)) (drawnFrom (s .held .outlets) i) in (omega arith, omega arith)
 
     none-rightwards : (i : ℕ) → i ≤ cells s → positive (negℤ (hi i)) * positive (carriedAt s i) ≡ 0
     none-rightwards zero l = enters-hi (lo 0) (hi 0) _ _ (e .left) shut-left .1
@@ -306,12 +353,34 @@ module _ (s : Reach) (k : Sound s) where
   unfolding afterTransport
   carried-zero i l = getD-replicate (length (s .carried)) i (pos 0) (pos 0) l
 
-  still : (h : ℕ) (l r : ℤ) → l ≡ pos 0 → r ≡ pos 0 → CarriedSound h h l r
-  still h l r p q = rw (p, q) (none-carried h)
+  still : (h : ℕ) (l r : ℤ) (ds : List ℕ) → l ≡ pos 0 → r ≡ pos 0 → sum ds ≡ 0 → CarriedSound h h l r ds
+  still h l r ds p q z = rw (p, q) (none-carried h ds z)
 
-  pub transport-sound : (es : List Boundary) → boundariesFit es ≡ true → ledgerFits (transportLedger s) ≡ true → Sound (holding es (afterTransport s))
-  unfolding afterTransport boundariesFit holding
-  transport-sound es fits ledger =
+  -- nothing is drawn any more
+  pub drawn-none : (i : ℕ) → sum (drawnFrom (transportOutlets s) i) ≡ 0
+  unfolding transportOutlets movedOutlets movedOutlet
+  drawn-none i =
+      let os = s .held .outlets in
+      let f = movedOutlet (massColumnsOf s) os in
+      ap sum (each-from f os (outlets-ready s k .few) (λ o. o .drawn) i)
+      ∙ sum-tabulate (os .count) (λ j. cond (eqb (f j .cell) i) (f j .drawn) 0)
+      ∙ sum-none (os .count) _ (λ j l. nothing (eqb (f j .cell) i))
+    where
+      nothing : (b : Bool) → _≡_ {A = ℕ} (cond b 0 0) 0
+      nothing true = refl
+      nothing false = refl
+
+  outlets-fit : outletsFit (cells s) (transportOutlets s) ≡ true
+  unfolding transportOutlets movedOutlets movedOutlet
+  outlets-fit = each-fits (movedOutlet (massColumnsOf s) (s .held .outlets)) (s .held .outlets) (outlets-ready s k .few) (cells s) (λ j l. (refl, refl)) (k .outlets)
+
+  totals-of : (es : List Boundary) → allTotalsFit (transportHeld s) ≡ true → allTotalsFit (withBoundaries es (transportHeld s)) ≡ true
+  unfolding allTotalsFit
+  totals-of es f = f
+
+  pub transport-sound : (es : List Boundary) → boundariesFit es ≡ true → allTotalsFit (transportHeld s) ≡ true → Sound (holding es (afterTransport s))
+  unfolding afterTransport transportHeld boundariesFit holding
+  transport-sound es fits totals =
       let t = transport-within (pos 0) (pos concentrationMost) in-range boundaries-in-range in
       let boundaries = all-of _ fits in record {
         some = k .some;
@@ -333,26 +402,27 @@ module _ (s : Reach) (k : Sound s) where
           base = k .cell i l .depth;
           mass = upper-bound (pos concentrationMost) (depthAt s i) _ (t .below i l) .0;
         };
-        water = λ i l. still (depthAt s i) _ _ (carried-zero i (omega (arith, k .interfaces))) (carried-zero (i + 1) (omega (arith, k .interfaces)));
+        water = λ i l. still (depthAt s i) _ _ _ (carried-zero i (omega (arith, k .interfaces))) (carried-zero (i + 1) (omega (arith, k .interfaces))) (drawn-none i);
         shutLeft = λ w. carried-zero 0 (omega (arith, k .interfaces));
         shutRight = λ w. carried-zero (cells s) (omega (arith, k .interfaces));
-        ledger = ledger;
+        outlets = outlets-fit;
+        totals = totals-of es totals;
       }
 
 -- the pair that is held already changes nothing
 pub holding-held : (s : Reach) → holding (s .held .boundaries) (afterTransport s) ≡ afterTransport s
-unfolding holding afterTransport
+unfolding holding afterTransport transportHeld
 holding-held s = refl
 
 -- a transport is the setting of the pair that is held
 pub transport-is : (s : Reach) → transport s ≡ setBoundaries s (s .held .boundaries)
-unfolding transport setBoundaries holding afterTransport
+unfolding transport setBoundaries holding afterTransport transportHeld
 transport-is s = refl
 
 -- every statement about a transport, by the two ways it can go
 pub by-transport : (s : Reach) (P : Outcome → Type 0)
     → ((n : ℕ) → 0 < n → P (record { refusal = n; reach = s }))
-    → (Sound s → ledgerFits (transportLedger s) ≡ true → P (record { refusal = 0; reach = afterTransport s }))
+    → (Sound s → allTotalsFit (transportHeld s) ≡ true → P (record { refusal = 0; reach = afterTransport s }))
     → P (transport s)
 by-transport s P stays moves =
     subst P (sym (transport-is s))

@@ -1,1 +1,2 @@
 pub mod CallsLaws
+pub mod LoadedLaws

@@ -1,22 +1,21 @@
 -- Document 01, 'Settling': the calls that move mass, transport (the paper's 'settling') and the setting of boundaries (its 'end setting').
 use mathlib.Core.Path.{_≡_}
-use mathlib.Core.Bool.{cond}
 use mathlib.Core.List.{List, [], _∷_, _++_}
 use Prim.Native.Nat.{ℕ, _+_, _*_}
 use lib.IntN.{ℤ, pos, negℤ}
 use lib.ListN.{length, replicate}
 use Rattle.numbers.specs.Index.{tabulate}
 use Rattle.numbers.specs.Signed.{positive}
-use Rattle.mass.specs.Transport.{MassColumns, massColumns, rightwards, leftwards, movedCell}
-use Rattle.reach.specs.Reach.{Reach, reachOf, cells, carriedAt, leftBoundary, rightBoundary, withBoundaries, withLedger}
-use Rattle.reach.specs.Grounds.{Ground, ground, firstRefusal, numberOf, passOr, ledgerFits, recordGrounds}
+use Rattle.mass.specs.Transport.{MassColumns, massColumns, rightwards, leftwards, movedCell, movedOutlets}
+use Rattle.reach.specs.Reach.{Reach, reachOf, cells, carriedAt, leftBoundary, rightBoundary, withBoundaries, withTotals}
+use Rattle.reach.specs.Grounds.{Ground, ground, firstRefusal, allTotalsFit, recordGrounds}
+use Rattle.reach.specs.Parts.{drawnFrom}
 use Rattle.reach.specs.Outcome.{Outcome, outcome}
+use Rattle.outlet.specs.declared.Outlets.{Outlets}
 use Rattle.reach.specs.declared.boundary.Boundary.{Boundary}
+use Rattle.reach.specs.declared.held.Held.{Held}
 use Rattle.reach.specs.declared.ledger.Totals.{Totals}
 use Rattle.reach.specs.declared.ledger.Ledger.{Ledger}
-use Rattle.reach.specs.declared.refusal.Check.{Check}
-use Rattle.transport.specs.declared.Entered.{Entered}
-use Rattle.transport.specs.declared.Entered.the-variants.{Accepted, Refused}
 use Rattle.transport.specs.declared.TransportAnswer.{TransportAnswer}
 
 -- water entering at a boundary brings its amount times that boundary's concentration
@@ -27,7 +26,7 @@ unfoldable pub enteringRight : Reach → ℕ
 enteringRight s = positive (negℤ (carriedAt s (cells s))) * rightBoundary (s .held .boundaries) .concentration
 
 abbrev pub massColumnsOf : Reach → MassColumns
-massColumnsOf s = massColumns (s .mass) (s .base) (s .carried) (enteringLeft s) (enteringRight s)
+massColumnsOf s = massColumns (s .mass) (s .base) (s .carried) (drawnFrom (s .held .outlets)) (enteringLeft s) (enteringRight s)
 
 -- totals with mass added
 unfoldable pub withMass : Totals → (gained lost : ℕ) → Totals
@@ -43,6 +42,13 @@ unfoldable pub transportLedger : Reach → Ledger
 transportLedger s =
     ledgerWith (s .held .ledger) (enteringLeft s) (leftwards (massColumnsOf s) 0) (enteringRight s) (rightwards (massColumnsOf s) (cells s))
 
+-- and each outlet's share into its total
+unfoldable pub transportOutlets : Reach → Outlets
+transportOutlets s = movedOutlets (massColumnsOf s) (s .held .outlets)
+
+unfoldable pub transportHeld : Reach → Held
+transportHeld s = withTotals (transportLedger s) (transportOutlets s) (s .held)
+
 -- shares move, b becomes h, c becomes 0
 unfoldable pub afterTransport : Reach → Reach
 afterTransport s = record {
@@ -53,12 +59,12 @@ afterTransport s = record {
   base = s .depth;
   carried = replicate (length (s .carried)) (pos 0);
   cellLength = s .cellLength;
-  held = withLedger (transportLedger s) (s .held);
+  held = transportHeld s;
 }
 
 -- grounds 4 to 9, of a call that is given the pair es, then 13: a total would pass 10^18 by this call
 abbrev pub transportGrounds : Reach → List Boundary → List Ground
-transportGrounds s es = recordGrounds s es ++ (ground 13 (ledgerFits (transportLedger s)) ∷ [])
+transportGrounds s es = recordGrounds s es ++ (ground 13 (allTotalsFit (transportHeld s)) ∷ [])
 
 -- transport may be called by itself
 unfoldable pub transport : Reach → Outcome
@@ -79,24 +85,3 @@ pub record CameTo (o : Outcome) (r : TransportAnswer) (mass base : List ℕ) (ca
   pub mass-is : mass ≡ o .reach .mass
   pub base-is : base ≡ o .reach .base
   pub carried-is : carried ≡ o .reach .carried
-
--- ---- 13, as entering amounts into a ledger answers it: the new ledger, or a refusal
-
--- each case as the answer of a check
-abbrev pub enteredCheck : Entered → Check
-enteredCheck (Accepted k) = Check.Pass
-enteredCheck (Refused n) = Check.Refused n
-
--- the paper's number, 0 for none
-abbrev pub enteredNumber : Entered → ℕ
-enteredNumber e = numberOf (enteredCheck e)
-
--- the ledger from then on: a refusal leaves the ledger k as it came
-abbrev pub enteredLedger : Ledger → Entered → Ledger
-enteredLedger k (Accepted next) = next
-enteredLedger k (Refused n) = k
-
--- entering came out: `next` in place of the ledger k where no total of it passes 10^18
-pub record EnteredTo (k next : Ledger) (e : Entered) : Type 0 where
-  pub check-is : enteredCheck e ≡ passOr 13 (ledgerFits next)
-  pub ledger-is : enteredLedger k e ≡ cond (ledgerFits next) next k

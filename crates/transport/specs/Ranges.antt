@@ -13,9 +13,9 @@ use Rattle.reach.specs.declared.held.Held.{Held}
 use Rattle.transport.specs.declared.TransportAnswer.{TransportAnswer}
 
 -- columns with a pair of boundaries: what enters is the water that came in times the boundary's concentration
-abbrev pub massColumnsWith : List ℕ → List ℕ → List ℤ → List Boundary → MassColumns
-massColumnsWith m b c es =
-    massColumns m b c
+abbrev pub massColumnsWith : List ℕ → List ℕ → List ℤ → (ℕ → List ℕ) → List Boundary → MassColumns
+massColumnsWith m b c drawn es =
+    massColumns m b c drawn
     (positive (getD c 0 (pos 0)) * leftBoundary es .concentration)
     (positive (negℤ (getD c (length m) (pos 0))) * rightBoundary es .concentration)
 

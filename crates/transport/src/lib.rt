@@ -7,22 +7,28 @@ ghost use lib.ListN.{length, replicate};
 ghost use Rattle.mass.specs.Transport.{massColumns};
 ghost use Rattle.mass.specs.Ranges.{Ready, massMost, movedMass};
 ghost use Rattle.reach.specs.Limits.{totalMost};
-ghost use Rattle.reach.specs.Reach.{came};
-ghost use Rattle.reach.specs.Grounds.{ledgerFits, numberOf};
-ghost use Rattle.transport.specs.Calls.{withMass, ledgerWith, enteredNumber, EnteredTo, setBoundaries, transport as transportOf, CameTo};
+ghost use Rattle.outlet.specs.Outlets.{outletsMost};
+ghost use Rattle.reach.specs.Ranges.{alone};
+ghost use Rattle.reach.specs.Reach.{reachOf, came};
+ghost use Rattle.reach.specs.Grounds.{ledgerFits, allTotalsFit, firstRefusal, recordGrounds, numberOf, passOr};
+ghost use Rattle.reach.specs.declared.refusal.Check.the-variants.{Pass};
+ghost use Rattle.transport.specs.Calls.{withMass, ledgerWith, setBoundaries, transport as transportOf, CameTo};
 ghost use Rattle.transport.specs.Ranges.{massColumnsWith, BoundaryMassOf, Small, answer};
 use mass::leaving;
 use mass::move_mass;
+use mass::outlets::move_outlets;
 use numbers::columns::clear_column;
 use numbers::columns::copy_column;
 use numbers::signed::left_part;
 use numbers::signed::right_part;
 use reach::boundary::Boundary;
+use reach::cells::CELLS_MOST;
 use reach::check_record;
 use reach::held::Held;
+use reach::held::all_totals_fit;
 use reach::ledger::Ledger;
 use reach::ledger::Totals;
-use reach::ledger::ledger_fits;
+use reach::outlets::drawn_by_cell;
 use reach::refusal::Check;
 
 // What a transport or a setting of boundaries hands back: 0 or the number of its refusal, the boundaries held from now on, and the ledger.
@@ -55,17 +61,18 @@ pub fn boundary_mass_of(
     mass: &[u64],
     base: &[u64],
     carried: &[i64],
+    drawn: &[u64],
     boundaries: [Boundary; 2],
 ) -> BoundaryMass
-    requires { ⌜ Ready (massColumnsWith (now mass) (now base) (now carried) boundaries) ⌝ }
-    requires { ⌜ 1 ≤ length (now mass) ⌝ }
-    ensures { λ r. ⌜ BoundaryMassOf (massColumnsWith (now (mass .entry)) (now (base .entry)) (now (carried .entry)) boundaries) (r .«left_in») (r .«left_out») (r .«right_in») (r .«right_out») ⌝ }
+    requires { ⌜ Ready (massColumnsWith (now mass) (now base) (now carried) (alone (now drawn)) boundaries) ⌝ }
+    requires { ⌜ (1 ≤ length (now mass)) × (length (now mass) ≤ length (now drawn)) ⌝ }
+    ensures { λ r. ⌜ BoundaryMassOf (massColumnsWith (now (mass .entry)) (now (base .entry)) (now (carried .entry)) (alone (now (drawn .entry))) boundaries) (r .«left_in») (r .«left_out») (r .«right_in») (r .«right_out») ⌝ }
 {
     let n = mass.len();
     let left_in = right_part(carried[0]) * boundaries[0].concentration;
     let right_in = left_part(carried[n]) * boundaries[1].concentration;
-    let first = leaving(mass, base, carried, right_in, 0);
-    let last = leaving(mass, base, carried, right_in, n - 1);
+    let first = leaving(mass, base, carried, drawn, right_in, 0);
+    let last = leaving(mass, base, carried, drawn, right_in, n - 1);
     BoundaryMass {
         left_in,
         left_out: first.left,
@@ -86,38 +93,30 @@ pub fn with_mass(t: Totals, gained: u64, lost: u64) -> Totals
     }
 }
 
-// The ledger after a transport, or ground 13
-pub enum Entered {
-    Accepted(Ledger),
-    Refused(u32),
-}
-
-// 0 or the number of the refusal
-pub fn refusal_of(e: Entered) -> u32
-    ensures { λ r. ⌜ r ≡ enteredNumber e ⌝ }
-{
-    let Entered::Refused(n) = e else {
-        return 0;
-    };
-    n
-}
-
-pub fn enter(k: Ledger, x: BoundaryMass) -> Entered
+// The ledger after a transport
+fn entered(k: Ledger, x: BoundaryMass) -> Ledger
     requires { ⌜ (ledgerFits k ≡ true) × Small (x .«left_in») (x .«left_out») (x .«right_in») (x .«right_out») ⌝ }
-    ensures { λ r. ⌜ EnteredTo k (ledgerWith k (x .«left_in») (x .«left_out») (x .«right_in») (x .«right_out»)) r ⌝ }
+    ensures { λ r. ⌜ r ≡ ledgerWith k (x .«left_in») (x .«left_out») (x .«right_in») (x .«right_out») ⌝ }
 {
     let left = k.left;
     let right = k.right;
     let next_left = with_mass(left, x.left_in, x.left_out);
     let next_right = with_mass(right, x.right_in, x.right_out);
-    let next = Ledger {
+    Ledger {
         left: next_left,
         right: next_right,
-    };
-    if ledger_fits(next) {
-        return Entered::Accepted(next);
     }
-    Entered::Refused(13)
+}
+
+// Ground 13, of the totals that a call would leave
+pub fn check_room(held: Held) -> Check
+    requires { ⌜ held .outlets .count ≤ outletsMost ⌝ }
+    ensures { λ r. ⌜ r ≡ passOr 13 (allTotalsFit held) ⌝ }
+{
+    if !all_totals_fit(held) {
+        return Check::Refused(13);
+    }
+    Check::Pass
 }
 
 // Shares move, the base depth becomes the depth, the carried water becomes 0. Nothing refuses any more.
@@ -126,18 +125,65 @@ pub fn commit(
     mass: &mut [u64],
     base: &mut [u64],
     carried: &mut [i64],
+    drawn: &[u64],
     left_in: u64,
     right_in: u64,
 )
-    requires { ⌜ Ready (massColumns (now mass) (now base) (now carried) «left_in» «right_in») ⌝ }
-    requires { ⌜ length (now base) ≡ length (now depth) ⌝ }
-    ensures { λ _. ⌜ now (mass .exit) ≡ movedMass (massColumns (now (mass .entry)) (now (base .entry)) (now (carried .entry)) «left_in» «right_in») ⌝ }
+    requires { ⌜ Ready (massColumns (now mass) (now base) (now carried) (alone (now drawn)) «left_in» «right_in») ⌝ }
+    requires { ⌜ (length (now base) ≡ length (now depth)) × (length (now mass) ≤ length (now drawn)) ⌝ }
+    ensures { λ _. ⌜ now (mass .exit) ≡ movedMass (massColumns (now (mass .entry)) (now (base .entry)) (now (carried .entry)) (alone (now (drawn .entry))) «left_in» «right_in») ⌝ }
     ensures { λ _. ⌜ now (base .exit) ≡ now (depth .entry) ⌝ }
     ensures { λ _. ⌜ now (carried .exit) ≡ replicate (length (now (carried .entry))) (pos 0) ⌝ }
 {
-    move_mass(mass, base, carried, left_in, right_in);
+    move_mass(mass, base, carried, drawn, left_in, right_in);
     copy_column(base, depth);
     clear_column(carried);
+}
+
+// Ground 13 and the transport itself, on a record that stood the grounds before
+fn transport_under(
+    bed: &[i64],
+    depth: &[u64],
+    discharge: &[i64],
+    mass: &mut [u64],
+    base: &mut [u64],
+    carried: &mut [i64],
+    x: u64,
+    held: Held,
+    given: [Boundary; 2],
+) -> TransportAnswer
+    requires { ⌜ firstRefusal (recordGrounds (reachOf (now bed) (now depth) (now discharge) (now mass) (now base) (now carried) x held) given) ≡ Pass ⌝ }
+    ensures { λ r. ⌜ CameTo (setBoundaries (came bed depth discharge mass base carried x held) given) r (now (mass .exit)) (now (base .exit)) (now (carried .exit)) ⌝ }
+{
+    let old = held.boundaries;
+    let ledger = held.ledger;
+    let outlets = held.outlets;
+    let mut drawn = [0u64; CELLS_MOST];
+    drawn_by_cell(outlets, &mut drawn);
+    let crossed = boundary_mass_of(mass, base, carried, &drawn, old);
+    let next = entered(ledger, crossed);
+    let moved = move_outlets(mass, base, carried, outlets);
+    let after = Held {
+        boundaries: given,
+        ledger: next,
+        outlets: moved,
+    };
+    let Check::Pass = check_room(after) else {
+        return TransportAnswer { refusal: 13, held };
+    };
+    commit(
+        depth,
+        mass,
+        base,
+        carried,
+        &drawn,
+        crossed.left_in,
+        crossed.right_in,
+    );
+    TransportAnswer {
+        refusal: 0,
+        held: after,
+    }
 }
 
 // Sets both boundaries, transporting first under the pair held so far.
@@ -158,32 +204,7 @@ pub fn set_boundaries(
     let Check::Pass = checked else {
         return refused(checked, held);
     };
-    let old = held.boundaries;
-    let ledger = held.ledger;
-    let crossed = boundary_mass_of(mass, base, carried, old);
-    let entered = enter(ledger, crossed);
-    let Entered::Accepted(next) = entered else {
-        return TransportAnswer {
-            refusal: refusal_of(entered),
-            held,
-        };
-    };
-    commit(
-        depth,
-        mass,
-        base,
-        carried,
-        crossed.left_in,
-        crossed.right_in,
-    );
-    let after = Held {
-        boundaries: given,
-        ledger: next,
-    };
-    TransportAnswer {
-        refusal: 0,
-        held: after,
-    }
+    transport_under(bed, depth, discharge, mass, base, carried, x, held, given)
 }
 
 // Transports by itself: the paper's 'settling'.

@@ -1,4 +1,4 @@
--- Document 01, 'A water step': the transport test (the paper's 'settling test'), the ledger's boundary water, grounds 10 to 13, and the record after the step.
+-- Document 01, 'A water step': the transport test (the paper's 'settling test'), the ledger's boundary water, what the outlets have, grounds 10 to 13, and the record after the step.
 use mathlib.Core.Bool.{Bool, not, cond, _&&_}
 use mathlib.Core.List.{List, [], _∷_, _++_}
 use Prim.Native.Nat.{ℕ, suc, _+_}
@@ -7,16 +7,20 @@ use lib.IntN.{ℤ, pos, _+ℤ_, negℤ}
 use lib.Signed.{leZ}
 use Rattle.numbers.specs.Index.{allOf, allBelow, tabulate}
 use Rattle.numbers.specs.Signed.{positive}
+use Rattle.outlet.specs.Outlets.{outletAt, eachOutlet}
+use Rattle.outlet.specs.declared.Outlet.{Outlet}
+use Rattle.outlet.specs.declared.Outlets.{Outlets}
 use Rattle.flux.specs.Limits.{depthMost, timeStepMost}
 use Rattle.cfl.specs.Cfl.{meetsCfl}
-use Rattle.reach.specs.Reach.{Reach, cells, baseAt, carriedAt, withLedger}
+use Rattle.reach.specs.Reach.{Reach, cells, baseAt, carriedAt, withTotals}
 use Rattle.reach.specs.Parts.{outflow}
-use Rattle.reach.specs.Grounds.{Ground, ground, firstRefusal, ledgerFits, recordGrounds}
+use Rattle.reach.specs.Grounds.{Ground, ground, firstRefusal, allTotalsFit, recordGrounds}
 use Rattle.reach.specs.Outcome.{Outcome, outcome}
+use Rattle.reach.specs.declared.held.Held.{Held}
 use Rattle.reach.specs.declared.ledger.Totals.{Totals}
 use Rattle.reach.specs.declared.ledger.Ledger.{Ledger}
 use Rattle.transport.specs.Calls.{afterTransport}
-use Rattle.water.specs.Water.{netAt, newDepth, newDischarge}
+use Rattle.water.specs.Water.{netAt, drawOf, newDepth, newDischarge}
 use Rattle.timestep.specs.GreatestStep.{placeSpeed}
 
 -- ---- the transport test, the paper's 'settling test'
@@ -25,9 +29,15 @@ use Rattle.timestep.specs.GreatestStep.{placeSpeed}
 unfoldable pub summed : Reach → (t i : ℕ) → ℤ
 summed s t i = carriedAt s i +ℤ netAt s t i
 
--- max(c(i+1),0) + max(−c(i),0) ≤ b in each cell, with the sums; b is the base depth, where report 4529's (26) prints the running one
+-- and what each outlet has in the step to what it has drawn of cell i, in list order
+unfoldable pub summedDrawn : Reach → (t i : ℕ) → List ℕ
+summedDrawn s t i =
+    let os = s .held .outlets in
+    tabulate (os .count) (λ k. cond (eqb (outletAt os k .cell) i) (outletAt os k .drawn + drawOf s t k) 0)
+
+-- max(c(i+1),0) + max(−c(i),0) and what was drawn ≤ b in each cell, with the sums; b is the base depth, where report 4529's (26) prints the running one
 unfoldable pub keepsSums : Reach → (t : ℕ) → Bool
-keepsSums s t = allBelow (cells s) (λ i. leb (outflow (summed s t i) (summed s t (suc i))) (baseAt s i))
+keepsSums s t = allBelow (cells s) (λ i. leb (outflow (summed s t i) (summed s t (suc i)) (summedDrawn s t i)) (baseAt s i))
 
 -- the record that N is added to: as it is where the sums are kept, otherwise after a transport with the old c, so that c is then 0
 unfoldable pub transportedFirst : Reach → (t : ℕ) → Reach
@@ -49,6 +59,20 @@ withBoundaryWater k first last = record {
 unfoldable pub stepLedger : Reach → (t : ℕ) → Ledger
 stepLedger s t = withBoundaryWater (transportedFirst s t .held .ledger) (netAt s t 0) (netAt s t (cells s))
 
+-- ---- what the outlets have: 'an outlet's water goes into its total at each step' (document 02, point 1). After a transport with the old drawn water
+-- `drawn` is what this step gave
+
+unfoldable pub steppedOutlet : Reach → (t k : ℕ) → Outlet
+steppedOutlet s t k =
+    let o = outletAt (transportedFirst s t .held .outlets) k in
+    record { cell = o .cell; want = o .want; drawn = o .drawn + drawOf s t k; water = o .water + drawOf s t k; mass = o .mass }
+
+unfoldable pub stepOutlets : Reach → (t : ℕ) → Outlets
+stepOutlets s t = eachOutlet (steppedOutlet s t) (transportedFirst s t .held .outlets)
+
+unfoldable pub stepHeld : Reach → (t : ℕ) → Held
+stepHeld s t = withTotals (stepLedger s t) (stepOutlets s t) (s .held)
+
 -- ---- the record after the step
 
 unfoldable pub afterStep : Reach → (t : ℕ) → Reach
@@ -61,7 +85,7 @@ afterStep s t =
       base = r .base;
       carried = tabulate (suc (cells s)) (λ i. carriedAt r i +ℤ netAt s t i);
       cellLength = s .cellLength;
-      held = withLedger (stepLedger s t) (s .held);
+      held = stepHeld s t;
     }
 
 -- ---- grounds 10 to 13
@@ -81,7 +105,7 @@ stepGrounds s t =
     ++ (ground 10 (timeFits t)
     ∷ ground 11 (meetsCfl (placeSpeed s) (cells s + 1) (s .cellLength) t)
     ∷ ground 12 (depthsFit s t)
-    ∷ ground 13 (ledgerFits (stepLedger s t))
+    ∷ ground 13 (allTotalsFit (stepHeld s t))
     ∷ [])
 
 unfoldable pub step : Reach → (t : ℕ) → Outcome

@@ -3,15 +3,21 @@ use mathlib.Core.Path.{_≡_, refl, sym, ap, ap₂, _∙_}
 use mathlib.Core.Bool.{Bool, true, false, cond, _&&_}
 use mathlib.Core.List.{List}
 use mathlib.Core.Logic.{⊎-elim}
-use Prim.Native.Nat.{ℕ, zero, suc, _+_, _-_, _*_, _≤_, _<_}
+use Prim.Native.Nat.{ℕ, zero, suc, _+_, _-_, _*_, _≤_, _<_, min}
 use native.Mathlib.Omega.{arith}
 use native.Mathlib.Nat.{le-trans}
 use native.Mathlib.Numerals.{add-one}
 use lib.Dec.{eqb, ltb}
-use borrow.Author.Tests.{lt-ltb, le-ltb, eq-eqb, ne-eqb}
+use borrow.Author.Tests.{lt-ltb, le-ltb, eq-eqb, ne-eqb, eqb-true}
 use lib.IntN.{ℤ, pos, _+ℤ_, _-ℤ_, negℤ, subℕ, natAbs}
+use lib.ListN.{length, getD}
 use lib.Signed.{leZ, leZ-yes}
-use Rattle.numbers.specs.Index.{allBelow}
+use Rattle.numbers.specs.Deal.{dealt}
+use Rattle.numbers.specs.Index.{allBelow, sum, sumBelow}
+use Rattle.numbers.proofs.DealLaws.{dealt-sum, dealt-most, dealt-all, length-dealt}
+use Rattle.numbers.proofs.IndexLaws.{getD-tabulate, length-tabulate, sum-by-index, sum-same}
+use Rattle.outlet.specs.Outlets.{outletAt, fromCell}
+use Rattle.outlet.specs.declared.Outlets.{Outlets}
 use Rattle.numbers.specs.Signed.{positive}
 use Rattle.numbers.proofs.SearchLaws.{by-test, by-less}
 use Rattle.numbers.proofs.SignedLaws.{R, L, right-sub, left-sub, pos-cross, neg-cross, add-cross, minus-cross, from-cross, le-cross, leZ-no, one-part, two-parts, pos-sub, sub-add, sub-minus, sub-eq, sub-neg, abs-parts, abs-neg, abs-sub}
@@ -30,8 +36,8 @@ use Rattle.reach.specs.declared.boundary.BoundaryPlace.{BoundaryPlace}
 use Rattle.reach.specs.declared.boundary.BoundaryPlace.the-variants.{Left, Right}
 use Rattle.reach.specs.Reach.{Reach, cells, bedAt, depthAt, dischargeAt, leftBoundary, rightBoundary}
 use Rattle.water.specs.Sides.{cellSide, boundarySide, leftSide, rightSide}
-use Rattle.water.specs.Water.{netAt, momentumAt, ownLeft, ownRight, newDepth, pushed, nearest, newDischarge}
-use Rattle.water.specs.Ranges.{sideOf, SideStateFits, ExchangeOf, ExchangeFits, fluxMost, flowOf, FlowFits, sidesMeet, Swept}
+use Rattle.water.specs.Water.{netAt, momentumAt, ownLeft, ownRight, available, wantsFrom, draws, drawOf, undrawnDepth, newDepth, pushed, nearest, newDischarge}
+use Rattle.water.specs.Ranges.{sideOf, SideStateFits, ExchangeOf, ExchangeFits, fluxMost, flowOf, FlowFits, sidesMeet, granted, grantedDepth, grantedDischarge, Swept}
 use Rattle.water.specs.declared.SideState.{SideState}
 use Rattle.water.specs.declared.Exchange.{Exchange}
 
@@ -71,29 +77,170 @@ outflow-covered s t i l x cfl =
     let e = sent s t i x cfl in
     rw (left-side-cell s i, right-side-cell s i l) (omega arith)
 
-sum-of-parts : (h a b c d : ℕ) → b + c ≤ h → pos h +ℤ subℕ a b -ℤ subℕ c d ≡ pos (h + a + d - (b + c))
-sum-of-parts h a b c d l =
+-- ---- outlets: what a cell can give, and what it gives
+
+-- h − r − l by parts
+available-parts : (s : Reach) (t i : ℕ) → i < cells s → available s t i ≡ subℕ (depthAt s i) (leftward s t i + rightward s t (suc i))
+unfolding available rightward leftward ownLeft ownRight
+available-parts s t i l =
+    rw (right-side-cell s i l, left-side-cell s i)
+    (two-off (depthAt s i) (waterFlux t (s .cellLength) (leftDepth (cellSide s i) (rightSide s (suc i))) (cellSide s i .velocity))
+    (waterFlux t (s .cellLength) (rightDepth (leftSide s i) (cellSide s i)) (negℤ (cellSide s i .velocity))))
+  where
+    two-off : (h a b : ℕ) → pos h -ℤ pos a -ℤ pos b ≡ subℕ h (b + a)
+    two-off h a b =
+        from-cross _ _
+        (omega (arith, minus-cross (pos h -ℤ pos a) (pos b), minus-cross (pos h) (pos a), pos-cross h, pos-cross a, pos-cross b, right-sub h (b + a), left-sub h (b + a)))
+
+pub available-positive : (s : Reach) (t i : ℕ) → i < cells s → positive (available s t i) ≡ depthAt s i - (leftward s t i + rightward s t (suc i))
+available-positive s t i l = ap positive (available-parts s t i l) ∙ right-sub (depthAt s i) (leftward s t i + rightward s t (suc i))
+
+-- a cell that meets CFL has something to give or nothing, never less
+pub available-is : (s : Reach) (t i : ℕ) → i < cells s → 0 < s .cellLength
+    → t * (natAbs (velocity (depthAt s i) (dischargeAt s i)) + waveSpeed (depthAt s i)) ≤ 1_000 * s .cellLength
+    → available s t i ≡ pos (depthAt s i - (leftward s t i + rightward s t (suc i)))
+available-is s t i l x cfl =
+    available-parts s t i l
+    ∙ from-cross _ _
+    (omega (
+      arith,
+      outflow-covered s t i l x cfl,
+      right-sub (depthAt s i) (leftward s t i + rightward s t (suc i)),
+      left-sub (depthAt s i) (leftward s t i + rightward s t (suc i)),
+      pos-cross (depthAt s i - (leftward s t i + rightward s t (suc i))),
+    ))
+
+-- what the outlets of a cell have is the lesser of what it can give and what they want
+granted-of : (a w : ℕ) (wants : List ℕ) (z : ℤ) → a ≡ positive z → w ≡ sum wants → sum (cond (leZ (pos w) z) wants (dealt a wants)) ≡ min a w
+granted-of a w wants z p q =
+    by-test (leZ (pos w) z) (λ b. sum (cond b wants (dealt a wants)) ≡ min a w)
+    (λ t. let c = le-cross (pos w) z (leZ-yes t) in ⊎-elim (λ o. omega (arith, pos-cross w, c, o, p, q)) (λ o. omega (arith, pos-cross w, c, o, p, q)) (one-part z))
+    (λ t. let c = le-cross z (pos w) (leZ-no (pos w) z t) in
+    let less : a ≤ w = ⊎-elim (λ o. omega (arith, pos-cross w, c, o, p)) (λ o. omega (arith, pos-cross w, c, o, p)) (one-part z) in
+    dealt-sum a wants (λ n. omega (arith, less, q, n)) ∙ omega (arith, less))
+
+pub granted-is : (s : Reach) (t i : ℕ) → sum (draws s t i) ≡ granted s t (sum (wantsFrom (s .held .outlets) i)) i
+unfolding draws granted
+granted-is s t i = granted-of (positive (available s t i)) (sum (wantsFrom (s .held .outlets) i)) (wantsFrom (s .held .outlets) i) (available s t i) refl refl
+
+-- dealt out by the wants, in both cases
+pub draws-dealt : (s : Reach) (t i : ℕ) → draws s t i ≡ dealt (granted s t (sum (wantsFrom (s .held .outlets) i)) i) (wantsFrom (s .held .outlets) i)
+unfolding draws granted
+draws-dealt s t i = go (positive (available s t i)) (available s t i) refl
+  where
+    wants : List ℕ
+    wants = wantsFrom (s .held .outlets) i
+
+    go : (a : ℕ) (z : ℤ) → a ≡ positive z → cond (leZ (pos (sum wants)) z) wants (dealt a wants) ≡ dealt (min a (sum wants)) wants
+    go a z p =
+        by-test (leZ (pos (sum wants)) z) (λ b. cond b wants (dealt a wants) ≡ dealt (min a (sum wants)) wants)
+        (λ x. let c = le-cross (pos (sum wants)) z (leZ-yes x) in
+        let e : min a (sum wants) ≡ sum wants = ⊎-elim (λ o. omega (arith, pos-cross (sum wants), c, o, p)) (λ o. omega (arith, pos-cross (sum wants), c, o, p)) (one-part z) in
+        sym (ap (λ (n : ℕ). dealt n wants) e ∙ dealt-all wants))
+        (λ x. let c = le-cross z (pos (sum wants)) (leZ-no (pos (sum wants)) z x) in
+        let e : min a (sum wants) ≡ a = ⊎-elim (λ o. omega (arith, pos-cross (sum wants), c, o, p)) (λ o. omega (arith, pos-cross (sum wants), c, o, p)) (one-part z) in
+        ap (λ (n : ℕ). dealt n wants) (sym e))
+
+pub depth-is : (s : Reach) (t i : ℕ) → newDepth s t i ≡ grantedDepth s t (sum (wantsFrom (s .held .outlets) i)) i
+unfolding newDepth grantedDepth
+depth-is s t i = rw (granted-is s t i) refl
+
+pub discharge-is : (s : Reach) (t i : ℕ) → newDischarge s t i ≡ grantedDischarge s t (sum (wantsFrom (s .held .outlets) i)) i
+unfolding newDischarge grantedDischarge
+discharge-is s t i = rw (depth-is s t i) refl
+
+-- ---- draws by outlet
+
+module _ (s : Reach) (t : ℕ) where
+  abbrev os : Outlets
+  os = s .held .outlets
+
+  abbrev wantAt : ℕ → ℕ → ℕ
+  wantAt i k = cond (eqb (outletAt os k .cell) i) (outletAt os k .want) 0
+
+  want-at : (i k : ℕ) → k < os .count → getD (wantsFrom os i) k 0 ≡ wantAt i k
+  unfolding fromCell
+  want-at i k l = getD-tabulate (os .count) (wantAt i) k 0 l
+
+  wants-long : (i : ℕ) → length (wantsFrom os i) ≡ os .count
+  unfolding fromCell
+  wants-long i = length-tabulate (os .count) (wantAt i)
+
+  draws-long : (i : ℕ) → length (draws s t i) ≡ os .count
+  unfolding draws
+  draws-long i = go (leZ (pos (sum (wantsFrom os i))) (available s t i))
+    where
+      go : (b : Bool) → length (cond b (wantsFrom os i) (dealt (positive (available s t i)) (wantsFrom os i))) ≡ os .count
+      go true = wants-long i
+      go false = length-dealt (positive (available s t i)) (wantsFrom os i) ∙ wants-long i
+
+  -- no outlet has more than it wants of a cell, so that one of another cell has nothing
+  draws-most : (i k : ℕ) → k < os .count → getD (draws s t i) k 0 ≤ wantAt i k
+  unfolding draws
+  draws-most i k l =
+      let wants = wantsFrom os i in
+      let z = available s t i in
+      by-test (leZ (pos (sum wants)) z) (λ b. getD (cond b wants (dealt (positive z) wants)) k 0 ≤ wantAt i k)
+      (λ x. omega (arith, want-at i k l))
+      (λ x. let c = le-cross z (pos (sum wants)) (leZ-no (pos (sum wants)) z x) in
+      let less : positive z ≤ sum wants = ⊎-elim (λ o. omega (arith, pos-cross (sum wants), c, o)) (λ o. omega (arith, pos-cross (sum wants), c, o)) (one-part z) in
+      omega (arith, want-at i k l, dealt-most (positive z) wants less k (omega (arith, l, wants-long i))))
+
+  -- 'no outlet exceeds its want'
+  pub draw-most : (k : ℕ) → k < os .count → drawOf s t k ≤ outletAt os k .want
+  unfolding drawOf
+  draw-most k l =
+      let i = outletAt os k .cell in
+      let own : wantAt i k ≡ outletAt os k .want = rw (eq-eqb i i refl) refl in
+      omega (arith, draws-most i k l, own)
+
+  pub draw-at : (i k : ℕ) → k < os .count → getD (draws s t i) k 0 ≡ cond (eqb (outletAt os k .cell) i) (drawOf s t k) 0
+  unfolding drawOf
+  draw-at i k l = go (eqb (outletAt os k .cell) i) refl
+    where
+      go : (b : Bool) → eqb (outletAt os k .cell) i ≡ b → getD (draws s t i) k 0 ≡ cond b (getD (draws s t (outletAt os k .cell)) k 0) 0
+      go true e = ap (λ (j : ℕ). getD (draws s t j) k 0) (sym (eqb-true (outletAt os k .cell) i e))
+      go false e = let m = rw e at (draws-most i k l) in omega (arith, m)
+
+  -- what a cell gives is what its outlets have
+  pub draws-sum : (i : ℕ) → sum (draws s t i) ≡ sumBelow (os .count) (λ k. cond (eqb (outletAt os k .cell) i) (drawOf s t k) 0)
+  draws-sum i =
+      sum-by-index (draws s t i)
+      ∙ ap (λ (n : ℕ). sumBelow n (λ k. getD (draws s t i) k 0)) (draws-long i)
+      ∙ sum-same (os .count) _ _ (λ k l. draw-at i k l)
+
+sum-of-parts : (h a b c d g : ℕ) → b + c + g ≤ h → pos h +ℤ subℕ a b -ℤ subℕ c d -ℤ pos g ≡ pos (h + a + d - (b + c + g))
+sum-of-parts h a b c d g l =
     from-cross _ _
     (omega (
       arith,
+      minus-cross (pos h +ℤ subℕ a b -ℤ subℕ c d) (pos g),
       minus-cross (pos h +ℤ subℕ a b) (subℕ c d),
       add-cross (pos h) (subℕ a b),
       pos-cross h,
+      pos-cross g,
       right-sub a b,
       left-sub a b,
       right-sub c d,
       left-sub c d,
-      pos-cross (h + a + d - (b + c)),
+      pos-cross (h + a + d - (b + c + g)),
     ))
+
+-- what goes out and what is drawn is covered by the depth
+pub drawn-covered : (s : Reach) (t i : ℕ) → i < cells s → 0 < s .cellLength
+    → t * (natAbs (velocity (depthAt s i) (dischargeAt s i)) + waveSpeed (depthAt s i)) ≤ 1_000 * s .cellLength
+    → leftward s t i + rightward s t (suc i) + sum (draws s t i) ≤ depthAt s i
+unfolding granted
+drawn-covered s t i l x cfl = omega (arith, outflow-covered s t i l x cfl, granted-is s t i, available-positive s t i l)
 
 -- h' is a natural number: no depth goes below zero
 pub new-depth-is : (s : Reach) (t i : ℕ) → i < cells s → 0 < s .cellLength
     → t * (natAbs (velocity (depthAt s i) (dischargeAt s i)) + waveSpeed (depthAt s i)) ≤ 1_000 * s .cellLength
-    → newDepth s t i ≡ pos (depthAt s i + rightward s t i + leftward s t (suc i) - (leftward s t i + rightward s t (suc i)))
-unfolding newDepth
+    → newDepth s t i ≡ pos (depthAt s i + rightward s t i + leftward s t (suc i) - (leftward s t i + rightward s t (suc i) + sum (draws s t i)))
+unfolding newDepth undrawnDepth
 new-depth-is s t i l x cfl =
     rw (net-is s t i, net-is s t (suc i))
-    (sum-of-parts (depthAt s i) (rightward s t i) (leftward s t i) (rightward s t (suc i)) (leftward s t (suc i)) (outflow-covered s t i l x cfl))
+    (sum-of-parts (depthAt s i) (rightward s t i) (leftward s t i) (rightward s t (suc i)) (leftward s t (suc i)) (sum (draws s t i)) (drawn-covered s t i l x cfl))
 
 -- over a wall no water comes
 pub wall-left : (s : Reach) (t : ℕ) → 0 < cells s → leftBoundary (s .held .boundaries) .kind ≡ wall → netAt s t 0 ≡ pos 0
@@ -286,12 +433,19 @@ module _ (s : Reach) (t : ℕ) where
   module _ (i : ℕ) {a b p d e a' b' p' d' e' : ℕ} (l : i < cells s)
       (k : ExchangeOf t (s .cellLength) (leftSide s i) (rightSide s i) a b p d e)
       (k' : ExchangeOf t (s .cellLength) (leftSide s (i + 1)) (rightSide s (i + 1)) a' b' p' d' e') where
-    pub depth-by-crossings : positive (newDepth s t i) ≡ depthAt s i + a + b' - (b + a')
-    unfolding newDepth
-    depth-by-crossings =
+    pub grant-by-crossings : (w : ℕ) → granted s t w i ≡ min (depthAt s i - (b + a')) w
+    unfolding granted leftward rightward
+    grant-by-crossings w =
+        let r : a' ≡ rightward s t (suc i) = rw (add-one i) at (k' .rightward-is) in
+        ap (λ (x : ℕ). min x w) (available-positive s t i l ∙ sym (ap₂ (λ (x y : ℕ). depthAt s i - (x + y)) (k .leftward-is) r))
+
+    pub depth-by-crossings : (w : ℕ) → positive (grantedDepth s t w i) ≡ depthAt s i + a + b' - (b + a' + min (depthAt s i - (b + a')) w)
+    unfolding grantedDepth undrawnDepth
+    depth-by-crossings w =
         let n : netAt s t (suc i) ≡ subℕ a' b' = rw (add-one i) at (net-by-crossing (i + 1) k') in
-        rw (net-by-crossing i k, n, pos-sub (depthAt s i), sub-add (depthAt s i) 0 a b, sub-minus (depthAt s i + a) (0 + b) a' b')
-        (omega (arith, right-sub (depthAt s i + a + b') (0 + b + a')))
+        let g = min (depthAt s i - (b + a')) w in
+        rw (grant-by-crossings w, net-by-crossing i k, n, pos-sub (depthAt s i), sub-add (depthAt s i) 0 a b, sub-minus (depthAt s i + a) (0 + b) a' b', pos-sub g, sub-minus (depthAt s i + a + b') (0 + b + a') g 0)
+        (omega (arith, right-sub (depthAt s i + a + b' + 0) (0 + b + a' + g)))
 
     lost-left : e ≡ stillThrust t (s .cellLength) (depthAt s i) - stillThrust t (s .cellLength) (ownLeft s i)
     unfolding ownLeft cellSide
@@ -303,11 +457,11 @@ module _ (s : Reach) (t : ℕ) where
     unfolding ownRight cellSide leftSide
     lost-right = rw (add-one i) at (k' .lost-left-is)
 
-    pub discharge-by-crossings : newDischarge s t i ≡ nearest (velocityMost * (depthAt s i + a + b' - (b + a'))) (dischargeAt s i +ℤ pos (p + e) -ℤ pos (p' + d'))
-    unfolding newDischarge momentumAt
-    discharge-by-crossings =
+    pub discharge-by-crossings : (w : ℕ) → grantedDischarge s t w i ≡ nearest (velocityMost * (depthAt s i + a + b' - (b + a' + min (depthAt s i - (b + a')) w))) (dischargeAt s i +ℤ pos (p + e) -ℤ pos (p' + d'))
+    unfolding grantedDischarge momentumAt
+    discharge-by-crossings w =
         let m : p' ≡ momentumAt s t (suc i) = rw (add-one i) at (k' .momentum-is) in
-        rw (pushed-is s t i l, depth-by-crossings, ← lost-left, ← lost-right, ← m, ← k .momentum-is) refl
+        rw (pushed-is s t i l, depth-by-crossings w, ← lost-left, ← lost-right, ← m, ← k .momentum-is) refl
 
 -- CFL at one side more
 pub meets-more : (first : Bool) (f : ℕ → Bool) (i : ℕ) → ((first && allBelow (i + 1) f) && f (i + 1)) ≡ (first && allBelow (i + 1 + 1) f)
@@ -391,21 +545,30 @@ module _ (s : Reach) (t : ℕ) where
   unfolding netAt
   net-same i = rw (left-same i, right-same i) refl
 
-  depth-same : (i : ℕ) → newDepth flow t i ≡ newDepth s t i
-  unfolding newDepth
-  depth-same i = rw (net-same i, net-same (suc i)) refl
-
   pushed-same : (i : ℕ) → pushed flow t i ≡ pushed s t i
   unfolding pushed momentumAt ownLeft ownRight
   pushed-same i = rw (left-same i, left-same (suc i), right-same i, right-same (suc i)) refl
 
-  discharge-same : (i : ℕ) → newDischarge flow t i ≡ newDischarge s t i
-  unfolding newDischarge
-  discharge-same i = rw (depth-same i, pushed-same i) refl
+  available-same : (i : ℕ) → available flow t i ≡ available s t i
+  unfolding available ownLeft ownRight cellSide
+  available-same i = rw (left-same i, left-same (suc i), right-same i, right-same (suc i)) refl
 
-  pub swept-same : (net : List ℤ) (depth : List ℕ) (discharge : List ℤ) → Swept flow t net depth discharge → Swept s t net depth discharge
-  swept-same net depth discharge k = record {
+  granted-same : (w i : ℕ) → granted flow t w i ≡ granted s t w i
+  unfolding granted
+  granted-same w i = rw (available-same i) refl
+
+  depth-same : (w i : ℕ) → grantedDepth flow t w i ≡ grantedDepth s t w i
+  unfolding grantedDepth undrawnDepth
+  depth-same w i = rw (granted-same w i, net-same i, net-same (suc i)) refl
+
+  discharge-same : (w i : ℕ) → grantedDischarge flow t w i ≡ grantedDischarge s t w i
+  unfolding grantedDischarge
+  discharge-same w i = rw (depth-same w i, pushed-same i) refl
+
+  pub swept-same : (wanted : List ℕ) (net : List ℤ) (given depth : List ℕ) (discharge : List ℤ) → Swept flow t wanted net given depth discharge → Swept s t wanted net given depth discharge
+  swept-same wanted net given depth discharge k = record {
     nets = λ i l. k .nets i l ∙ net-same i;
-    depths = λ i l. k .depths i l ∙ ap positive (depth-same i);
-    discharges = λ i l. k .discharges i l ∙ discharge-same i;
+    grants = λ i l. k .grants i l ∙ granted-same (getD wanted i 0) i;
+    depths = λ i l. k .depths i l ∙ ap positive (depth-same (getD wanted i 0) i);
+    discharges = λ i l. k .discharges i l ∙ discharge-same (getD wanted i 0) i;
   }

@@ -2,12 +2,13 @@
 use mathlib.Core.Path.{_≡_}
 use mathlib.Core.Bool.{Bool, _&&_}
 use mathlib.Core.List.{List, []}
-use Prim.Native.Nat.{ℕ, suc, _+_, _-_, _*_, _≤_, _<_}
+use Prim.Native.Nat.{ℕ, suc, _+_, _-_, _*_, _≤_, _<_, min}
 use lib.Dec.{leb}
-use lib.IntN.{ℤ, pos, natAbs, negℤ, subℕ}
+use lib.IntN.{ℤ, pos, _-ℤ_, natAbs, negℤ, subℕ}
 use lib.ListN.{length, getD}
 use Rattle.numbers.specs.Index.{allBelow}
 use Rattle.numbers.specs.Signed.{positive}
+use Rattle.outlet.specs.Outlets.{noOutlets}
 use Rattle.flux.specs.Limits.{bedMost, depthMost, velocityMost}
 use Rattle.flux.specs.Crossing.{waterFlux, stillThrust}
 use Rattle.flux.specs.Interface.{Side, leftDepth, rightDepth, momentumSum}
@@ -16,7 +17,7 @@ use Rattle.reach.specs.Reach.{Reach, reachOf, cells, bedAt, depthAt, dischargeA
 use Rattle.reach.specs.declared.boundary.Boundary.{Boundary}
 use Rattle.reach.specs.declared.ledger.Totals.{Totals}
 use Rattle.water.specs.Sides.{sideSpeed, leftSide, rightSide}
-use Rattle.water.specs.Water.{netAt, newDepth, newDischarge}
+use Rattle.water.specs.Water.{netAt, available, undrawnDepth, pushed, nearest}
 use Rattle.water.specs.declared.SideState.{SideState}
 use Rattle.water.specs.declared.Exchange.{Exchange}
 
@@ -60,7 +61,7 @@ pub record ExchangeFits (c : Exchange) : Type 0 where
 abbrev pub flowOf : List ℤ → List ℕ → List ℤ → ℕ → List Boundary → Reach
 flowOf z h q X es =
     let none : Totals = record { «water_in» = 0; «water_out» = 0; «mass_in» = 0; «mass_out» = 0 } in
-    reachOf z h q [] [] [] X (heldWith es (record { left = none; right = none }))
+    reachOf z h q [] [] [] X (heldWith es (record { left = none; right = none }) noOutlets)
 
 -- bed level, depth and discharge in range
 abbrev pub InRange : ℤ → ℕ → ℤ → Type 0
@@ -85,8 +86,20 @@ sideMeets t X s = leb (t * sideSpeed s) (1_000 * X)
 unfoldable pub sidesMeet : Reach → (t : ℕ) → Bool
 sidesMeet s t = sideMeets t (s .cellLength) (leftSide s 0) && allBelow (suc (cells s)) (λ i. sideMeets t (s .cellLength) (rightSide s i))
 
--- what the sweep gives: N at each interface, and depth and discharge of each cell after the step
-pub record Swept (s : Reach) (t : ℕ) (net : List ℤ) (depth : List ℕ) (discharge : List ℤ) : Type 0 where
+-- what a cell gives of `wanted`, and the depth and the discharge that it then has; with the wants of its outlets these are `draws`, `newDepth` and
+-- `newDischarge` (`granted-is`, `depth-is`, `discharge-is`)
+unfoldable pub granted : Reach → (t wanted i : ℕ) → ℕ
+granted s t wanted i = min (positive (available s t i)) wanted
+
+unfoldable pub grantedDepth : Reach → (t wanted i : ℕ) → ℤ
+grantedDepth s t wanted i = undrawnDepth s t i -ℤ pos (granted s t wanted i)
+
+unfoldable pub grantedDischarge : Reach → (t wanted i : ℕ) → ℤ
+grantedDischarge s t wanted i = nearest (velocityMost * positive (grantedDepth s t wanted i)) (pushed s t i)
+
+-- what the sweep gives: N at each interface; what each cell gives of the wants; and depth and discharge of each cell after the step
+pub record Swept (s : Reach) (t : ℕ) (wanted : List ℕ) (net : List ℤ) (given depth : List ℕ) (discharge : List ℤ) : Type 0 where
   pub nets : (i : ℕ) → i ≤ cells s → getD net i (pos 0) ≡ netAt s t i
-  pub depths : (i : ℕ) → i < cells s → getD depth i 0 ≡ positive (newDepth s t i)
-  pub discharges : (i : ℕ) → i < cells s → getD discharge i (pos 0) ≡ newDischarge s t i
+  pub grants : (i : ℕ) → i < cells s → getD given i 0 ≡ granted s t (getD wanted i 0) i
+  pub depths : (i : ℕ) → i < cells s → getD depth i 0 ≡ positive (grantedDepth s t (getD wanted i 0) i)
+  pub discharges : (i : ℕ) → i < cells s → getD discharge i (pos 0) ≡ grantedDischarge s t (getD wanted i 0) i

@@ -2,7 +2,7 @@
 // down beside the record, which stays as it is.
 ghost use mathlib.Core.Path.{_≡_};
 ghost use mathlib.Core.Bool.{cond, _&&_};
-ghost use Prim.Native.Nat.{_+_, _-_, _*_, _≤_, _<_};
+ghost use Prim.Native.Nat.{ℕ, _+_, _-_, _*_, _≤_, _<_, min};
 ghost use lib.Dec.{ltb};
 ghost use lib.IntN.{pos, _+ℤ_, _-ℤ_, natAbs, subℕ};
 ghost use lib.ListN.{length, getD};
@@ -65,12 +65,28 @@ fn net_of(c: Exchange) -> i64
     joined(c.rightward, c.leftward)
 }
 
-// The depth of a cell after the step, by what crosses at its left and at its right. CFL keeps the difference from being cut off at 0.
-fn depth_after(h: u64, l: Exchange, r: Exchange) -> u64
-    requires { ⌜ (h ≤ depthMost) × (ExchangeFits l × ExchangeFits r) ⌝ }
-    ensures { λ d. ⌜ d ≡ h + l .rightward + r .leftward - (l .leftward + r .rightward) ⌝ }
+// What a cell gives of what its outlets want: no more than its own two outgoing W leave of its depth
+fn granted_of(h: u64, l: Exchange, r: Exchange, wanted: u64) -> u64
+    requires { ⌜ ExchangeFits l × ExchangeFits r ⌝ }
+    ensures { λ g. ⌜ g ≡ min (h - (l .leftward + r .rightward)) wanted ⌝ }
 {
-    excess(h + l.rightward + r.leftward, l.leftward + r.rightward)
+    let available = excess(h, l.leftward + r.rightward);
+    if available < wanted {
+        return available;
+    }
+    wanted
+}
+
+// The depth of a cell after the step, by what crosses at its left and at its right and what it gives. CFL keeps the difference from being cut off
+// at 0.
+fn depth_after(h: u64, l: Exchange, r: Exchange, given: u64) -> u64
+    requires { ⌜ (h ≤ depthMost) × ((given ≤ h) × (ExchangeFits l × ExchangeFits r)) ⌝ }
+    ensures { λ d. ⌜ d ≡ h + l .rightward + r .leftward - (l .leftward + r .rightward + given) ⌝ }
+{
+    excess(
+        h + l.rightward + r.leftward,
+        l.leftward + r.rightward + given,
+    )
 }
 
 // Its discharge, over the depth that it then has
@@ -96,7 +112,7 @@ fn check_cfl(met: bool) -> Check
     Check::Pass
 }
 
-// Ground 11, CFL at every side; N of each interface, and depth and discharge of each cell after the step
+// Ground 11, CFL at every side; N of each interface, what each cell gives of what is wanted of it, and its depth and discharge after the step
 pub fn sweep(
     t: u64,
     x: u64,
@@ -104,14 +120,18 @@ pub fn sweep(
     depth: &[u64],
     discharge: &[i64],
     boundaries: [Boundary; 2],
+    wanted: &[u64],
     net: &mut [i64],
+    given: &mut [u64],
     new_depth: &mut [u64],
     new_discharge: &mut [i64],
 ) -> Check
     requires { ⌜ Mesh t x × FlowFits (flowOf (now bed) (now depth) (now discharge) x boundaries) ⌝ }
+    requires { ⌜ (length (now bed) ≤ length (now wanted)) × (length (now bed) ≤ length (now given)) ⌝ }
     requires { ⌜ (length (now bed) < length (now net)) × ((length (now bed) ≤ length (now «new_depth»)) × (length (now bed) ≤ length (now «new_discharge»))) ⌝ }
     ensures { λ r. ⌜ r ≡ passOr 11 (sidesMeet (flowOf (now (bed .entry)) (now (depth .entry)) (now (discharge .entry)) x boundaries) t) ⌝ }
-    ensures { λ _. ⌜ Swept (flowOf (now (bed .entry)) (now (depth .entry)) (now (discharge .entry)) x boundaries) t (now (net .exit)) (now («new_depth» .exit)) (now («new_discharge» .exit)) ⌝ }
+    ensures { λ _. ⌜ Swept (flowOf (now (bed .entry)) (now (depth .entry)) (now (discharge .entry)) x boundaries) t (now (wanted .entry)) (now (net .exit)) (now (given .exit)) (now («new_depth» .exit)) (now («new_discharge» .exit)) ⌝ }
+    ensures { λ _. ⌜ ((i : ℕ) → length (now (bed .entry)) ≤ i → getD (now (given .exit)) i 0 ≡ getD (now (given .entry)) i 0) ⌝ }
 {
     let n = bed.len();
     let mut cell = cell_state(bed[0], depth[0], discharge[0]);
@@ -123,9 +143,11 @@ pub fn sweep(
     while i < n {
         let next = right_side(bed, depth, discharge, boundaries[1], cell, i + 1);
         let right = exchange_between(t, x, cell, next);
-        let deep = depth_after(depth[i], left, right);
+        let taken = granted_of(depth[i], left, right, wanted[i]);
+        let deep = depth_after(depth[i], left, right, taken);
         met = still_meets(met, t, x, next);
         net[i + 1] = net_of(right);
+        given[i] = taken;
         new_depth[i] = deep;
         new_discharge[i] = momentum_after(discharge[i], left, right, deep);
         cell = next;

@@ -5,6 +5,7 @@ use Prim.Native.Nat.{ℕ}
 use lib.IntN.{ℤ, pos, negℤ}
 use Rattle.flux.specs.Wave.{waveSpeed}
 use Rattle.reach.specs.Reach.{Reach, noBoundary, heldWith}
+use Rattle.outlet.specs.Outlets.{noOutlets}
 use Rattle.reach.specs.declared.boundary.Boundary.{Boundary}
 use Rattle.sheet.specs.Opening.{emptyLedger}
 use Rattle.timestep.specs.GreatestStep.{greatest}
@@ -20,7 +21,7 @@ oneCell h q left right = record {
   base = h ∷ [];
   carried = pos 0 ∷ pos 0 ∷ [];
   cellLength = 1_000;
-  held = heldWith (left ∷ right ∷ []) emptyLedger;
+  held = heldWith (left ∷ right ∷ []) emptyLedger noOutlets;
 }
 
 abbrev pub fedStill : Boundary
@@ -56,7 +57,7 @@ pit = record {
   base = 0 ∷ 272_000 ∷ 0 ∷ [];
   carried = pos 0 ∷ pos 0 ∷ pos 0 ∷ pos 0 ∷ [];
   cellLength = 1_000;
-  held = heldWith (noBoundary ∷ noBoundary ∷ []) emptyLedger;
+  held = heldWith (noBoundary ∷ noBoundary ∷ []) emptyLedger noOutlets;
 }
 
 pub record CflWorked : Type 0 where

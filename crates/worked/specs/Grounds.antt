@@ -4,8 +4,10 @@ use mathlib.Core.Bool.{Bool, false}
 use mathlib.Core.List.{List, [], _∷_, map}
 use Prim.Native.Nat.{ℕ}
 use lib.IntN.{ℤ, pos}
-use lib.ListN.{take}
-use Rattle.reach.specs.Reach.{Reach, noBoundary, heldWith}
+use lib.ListN.{take, replicate}
+use Rattle.reach.specs.Reach.{Reach, reachOf, noBoundary, heldWith, withTotals}
+use Rattle.outlet.specs.Outlets.{noOutlet, noOutlets}
+use Rattle.outlet.specs.declared.Outlets.{Outlets}
 use Rattle.reach.specs.Grounds.{Ground, numberOf, recordGrounds}
 use Rattle.reach.specs.declared.boundary.Boundary.{Boundary}
 use Rattle.transport.specs.Calls.{transportGrounds, transport, setBoundaries}
@@ -40,25 +42,35 @@ cell b X left h c water mass = record {
   held = heldWith (left ∷ noBoundary ∷ []) (record {
     left = record { «water_in» = water; «water_out» = 0; «mass_in» = mass; «mass_out» = 0 };
     right = emptyTotals;
-  });
+  }) noOutlets;
 }
 
--- ---- the ladder of a step: all is wrong at its foot, and each rung has mended one thing more. No base depth, X 0, kind 3, depth 5,000,000, c 1 that h and b do not
+-- 33 outlets
+abbrev pub tooMany : Outlets
+tooMany = record { count = 33; list = replicate 32 noOutlet }
+
+abbrev pub tooLong : Reach → Reach
+tooLong s = reachOf (s .bed) (s .depth) (s .discharge) (s .mass) (s .base) (s .carried) (s .cellLength) (withTotals (s .held .ledger) tooMany (s .held))
+
+-- ---- the ladder of a step: all is wrong at its foot, and each rung has mended one thing more. No base depth, X 0, kind 3, depth 5,000,000, 33 outlets, c 1 that h and b do not
 -- account for, a total of 10^18 + 1, t 1,001; so CFL is broken, and the new depth and total are out of range too
 abbrev pub foot : Reach
-foot = cell [] 0 (kindOf 3) 5_000_000 (pos 1) 1_000_000_000_000_000_001 0
+foot = tooLong (cell [] 0 (kindOf 3) 5_000_000 (pos 1) 1_000_000_000_000_000_001 0)
 
 abbrev pub lengthsMended : Reach
-lengthsMended = cell (5_000_000 ∷ []) 0 (kindOf 3) 5_000_000 (pos 1) 1_000_000_000_000_000_001 0
+lengthsMended = tooLong (cell (5_000_000 ∷ []) 0 (kindOf 3) 5_000_000 (pos 1) 1_000_000_000_000_000_001 0)
 
 abbrev pub cellLengthMended : Reach
-cellLengthMended = cell (5_000_000 ∷ []) 100 (kindOf 3) 5_000_000 (pos 1) 1_000_000_000_000_000_001 0
+cellLengthMended = tooLong (cell (5_000_000 ∷ []) 100 (kindOf 3) 5_000_000 (pos 1) 1_000_000_000_000_000_001 0)
 
 abbrev pub boundaryMended : Reach
-boundaryMended = cell (5_000_000 ∷ []) 100 torrent 5_000_000 (pos 1) 1_000_000_000_000_000_001 0
+boundaryMended = tooLong (cell (5_000_000 ∷ []) 100 torrent 5_000_000 (pos 1) 1_000_000_000_000_000_001 0)
 
 abbrev pub depthMended : Reach
-depthMended = cell (4_000_000 ∷ []) 100 torrent 4_000_000 (pos 1) 1_000_000_000_000_000_001 0
+depthMended = tooLong (cell (4_000_000 ∷ []) 100 torrent 4_000_000 (pos 1) 1_000_000_000_000_000_001 0)
+
+abbrev pub outletsMended : Reach
+outletsMended = cell (4_000_000 ∷ []) 100 torrent 4_000_000 (pos 1) 1_000_000_000_000_000_001 0
 
 abbrev pub carriedMended : Reach
 carriedMended = cell (4_000_000 ∷ []) 100 torrent 4_000_000 (pos 0) 1_000_000_000_000_000_001 0
@@ -97,31 +109,36 @@ sheetOf e n o X k h =
     ∷ 0 ∷ 0 ∷ 0 ∷ 0 ∷ 0 ∷ 0 ∷ 0 ∷ 0 ∷ []  -- mass
 
 abbrev pub lentNone : Reach
-lentNone = lent [] [] [] [] [] []
+lentNone = lent [] [] [] [] [] [] tooMany
 
 abbrev pub lentOne : Reach
-lentOne = lent (pos 0 ∷ []) (0 ∷ []) (pos 0 ∷ []) (0 ∷ []) (0 ∷ []) (pos 0 ∷ pos 0 ∷ [])
+lentOne = lent (pos 0 ∷ []) (0 ∷ []) (pos 0 ∷ []) (0 ∷ []) (0 ∷ []) (pos 0 ∷ pos 0 ∷ []) tooMany
+
+-- and with no outlets
+abbrev pub lentFit : Reach
+lentFit = lent (pos 0 ∷ []) (0 ∷ []) (pos 0 ∷ []) (0 ∷ []) (0 ∷ []) (pos 0 ∷ pos 0 ∷ []) noOutlets
 
 pub record GroundsWorked : Type 0 where
-  -- 'Opening uses 1 to 7. Every other call on a record uses 4 to 9; then a step uses 10 to 13, a settling or end setting 13, a write 14 and 15': whatever it is given.
+  -- 'Opening uses 1 to 7. Every other call on a record uses 4 to 9', with 16 'checked after 7'; 'then a step uses 10 to 13, a settling or end setting 13, a write 14 and 15': whatever it is given.
   -- 6 stands twice, for the boundaries held and those newly given (for a call that is given none, those held)
-  pub open-numbers : (s : List ℕ) (z h q m b c : ℕ) → numbers (openGrounds s z h q m b c) ≡ 1 ∷ 2 ∷ 3 ∷ 4 ∷ 5 ∷ 6 ∷ 7 ∷ []
-  pub record-numbers : (s : Reach) (es : List Boundary) → numbers (recordGrounds s es) ≡ 4 ∷ 5 ∷ 6 ∷ 6 ∷ 7 ∷ 8 ∷ 9 ∷ []
-  pub step-numbers : (s : Reach) (t : ℕ) → numbers (stepGrounds s t) ≡ 4 ∷ 5 ∷ 6 ∷ 6 ∷ 7 ∷ 8 ∷ 9 ∷ 10 ∷ 11 ∷ 12 ∷ 13 ∷ []
-  pub transport-numbers : (s : Reach) (es : List Boundary) → numbers (transportGrounds s es) ≡ 4 ∷ 5 ∷ 6 ∷ 6 ∷ 7 ∷ 8 ∷ 9 ∷ 13 ∷ []
-  pub write-numbers : (s : Reach) (room : ℕ) → numbers (writeGrounds s room) ≡ 4 ∷ 5 ∷ 6 ∷ 6 ∷ 7 ∷ 8 ∷ 9 ∷ 14 ∷ 15 ∷ []
+  pub open-numbers : (s : List ℕ) (z h q m b c : ℕ) (os : Outlets) → numbers (openGrounds s z h q m b c os) ≡ 1 ∷ 2 ∷ 3 ∷ 4 ∷ 5 ∷ 6 ∷ 7 ∷ 16 ∷ []
+  pub record-numbers : (s : Reach) (es : List Boundary) → numbers (recordGrounds s es) ≡ 4 ∷ 5 ∷ 6 ∷ 6 ∷ 7 ∷ 16 ∷ 8 ∷ 9 ∷ []
+  pub step-numbers : (s : Reach) (t : ℕ) → numbers (stepGrounds s t) ≡ 4 ∷ 5 ∷ 6 ∷ 6 ∷ 7 ∷ 16 ∷ 8 ∷ 9 ∷ 10 ∷ 11 ∷ 12 ∷ 13 ∷ []
+  pub transport-numbers : (s : Reach) (es : List Boundary) → numbers (transportGrounds s es) ≡ 4 ∷ 5 ∷ 6 ∷ 6 ∷ 7 ∷ 16 ∷ 8 ∷ 9 ∷ 13 ∷ []
+  pub write-numbers : (s : Reach) (room : ℕ) → numbers (writeGrounds s room) ≡ 4 ∷ 5 ∷ 6 ∷ 6 ∷ 7 ∷ 16 ∷ 8 ∷ 9 ∷ 14 ∷ 15 ∷ []
   -- 4 to 9 are the same tests in each
-  pub step-begins : (s : Reach) (t : ℕ) → take 7 (stepGrounds s t) ≡ recordGrounds s (s .held .boundaries)
-  pub transport-begins : (s : Reach) (es : List Boundary) → take 7 (transportGrounds s es) ≡ recordGrounds s es
-  pub write-begins : (s : Reach) (room : ℕ) → take 7 (writeGrounds s room) ≡ recordGrounds s (s .held .boundaries)
+  pub step-begins : (s : Reach) (t : ℕ) → take 8 (stepGrounds s t) ≡ recordGrounds s (s .held .boundaries)
+  pub transport-begins : (s : Reach) (es : List Boundary) → take 8 (transportGrounds s es) ≡ recordGrounds s es
+  pub write-begins : (s : Reach) (room : ℕ) → take 8 (writeGrounds s room) ≡ recordGrounds s (s .held .boundaries)
   -- a step: at the foot it stands none
   pub step-foot : standing (stepGrounds foot 1_001)
-      ≡ false ∷ false ∷ false ∷ false ∷ false ∷ false ∷ false ∷ false ∷ false ∷ false ∷ false ∷ []
+      ≡ false ∷ false ∷ false ∷ false ∷ false ∷ false ∷ false ∷ false ∷ false ∷ false ∷ false ∷ false ∷ []
   pub step-4 : step foot 1_001 .refusal ≡ 4
   pub step-5 : step lengthsMended 1_001 .refusal ≡ 5
   pub step-6 : step cellLengthMended 1_001 .refusal ≡ 6
   pub step-7 : step boundaryMended 1_001 .refusal ≡ 7
-  pub step-8 : step depthMended 1_001 .refusal ≡ 8
+  pub step-16 : step depthMended 1_001 .refusal ≡ 16
+  pub step-8 : step outletsMended 1_001 .refusal ≡ 8
   pub step-9 : step carriedMended 1_001 .refusal ≡ 9
   pub step-10 : step totalMended 1_001 .refusal ≡ 10
   pub step-11 : step totalMended 1_000 .refusal ≡ 11
@@ -146,7 +163,7 @@ pub record GroundsWorked : Type 0 where
   pub write-15 : numberOf (writeRefusal emptied 103) ≡ 15
   pub write-0 : numberOf (writeRefusal emptied 104) ≡ 0
   -- an opening, of a sheet of edition 2, n 2, bed levels from 79 on, X 99, left kind 3 and depth 255·65,536, into columns that fit nothing: mended one by one
-  pub open-foot : standing (openGrounds (sheetOf 2 2 79 99 3 255) 0 0 0 0 0 0) ≡ false ∷ false ∷ false ∷ false ∷ false ∷ false ∷ false ∷ []
+  pub open-foot : standing (openGrounds (sheetOf 2 2 79 99 3 255) 0 0 0 0 0 0 tooMany) ≡ false ∷ false ∷ false ∷ false ∷ false ∷ false ∷ false ∷ false ∷ []
   pub open-1 : opening (sheetOf 2 2 79 99 3 255) lentNone .refusal ≡ 1
   pub open-2 : opening (sheetOf 1 2 79 99 3 255) lentNone .refusal ≡ 2
   pub open-3 : opening (sheetOf 1 1 79 99 3 255) lentNone .refusal ≡ 3
@@ -154,4 +171,5 @@ pub record GroundsWorked : Type 0 where
   pub open-5 : opening (sheetOf 1 1 80 99 3 255) lentOne .refusal ≡ 5
   pub open-6 : opening (sheetOf 1 1 80 100 3 255) lentOne .refusal ≡ 6
   pub open-7 : opening (sheetOf 1 1 80 100 0 255) lentOne .refusal ≡ 7
-  pub open-0 : opening (sheetOf 1 1 80 100 0 1) lentOne .refusal ≡ 0
+  pub open-16 : opening (sheetOf 1 1 80 100 0 1) lentOne .refusal ≡ 16
+  pub open-0 : opening (sheetOf 1 1 80 100 0 1) lentFit .refusal ≡ 0

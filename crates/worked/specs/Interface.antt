@@ -6,6 +6,7 @@ use Prim.Native.Nat.{ℕ}
 use lib.IntN.{ℤ, pos, negℤ}
 use Rattle.flux.specs.Interface.{Side, reducedDepth, leftDepth, rightDepth, netWater, momentumSum}
 use Rattle.reach.specs.Reach.{Reach, noBoundary, heldWith}
+use Rattle.outlet.specs.Outlets.{noOutlets}
 use Rattle.reach.specs.Outcome.{Outcome}
 use Rattle.sheet.specs.Opening.{emptyLedger}
 use Rattle.update.specs.Step.{step}
@@ -27,7 +28,7 @@ overStep hl hr ql qr = record {
   base = hl ∷ hr ∷ [];
   carried = pos 0 ∷ pos 0 ∷ pos 0 ∷ [];
   cellLength = 1_030;
-  held = heldWith (noBoundary ∷ noBoundary ∷ []) emptyLedger;
+  held = heldWith (noBoundary ∷ noBoundary ∷ []) emptyLedger noOutlets;
 }
 
 -- the same two sides as cells, and the lake at rest, its surface level

@@ -4,6 +4,7 @@ use mathlib.Core.List.{[], _∷_}
 use Prim.Native.Nat.{ℕ}
 use lib.IntN.{pos, negℤ}
 use Rattle.reach.specs.Reach.{Reach, heldWith}
+use Rattle.outlet.specs.Outlets.{noOutlets}
 use Rattle.reach.specs.declared.boundary.Boundary.{Boundary}
 use Rattle.reach.specs.declared.ledger.Totals.{Totals}
 use Rattle.mass.specs.Transport.{rightShare, leftShare}
@@ -25,7 +26,7 @@ oneGrain = record {
   base = 2 ∷ [];
   carried = negℤ (pos 1) ∷ pos 1 ∷ [];
   cellLength = 1_000;
-  held = heldWith (openAt 0 ∷ openAt 0 ∷ []) (record { left = massTotals 0 0; right = massTotals 0 0 });
+  held = heldWith (openAt 0 ∷ openAt 0 ∷ []) (record { left = massTotals 0 0; right = massTotals 0 0 }) noOutlets;
 }
 
 -- the middle one of three cells sends 2 to the left and 3 to the right; 2 come in at the left at concentration 5, 4 at the right at 9
@@ -38,7 +39,7 @@ threeCells = record {
   base = 20 ∷ 7 ∷ 30 ∷ [];
   carried = pos 2 ∷ negℤ (pos 2) ∷ pos 3 ∷ negℤ (pos 4) ∷ [];
   cellLength = 1_000;
-  held = heldWith (openAt 5 ∷ openAt 9 ∷ []) (record { left = massTotals 0 0; right = massTotals 0 0 });
+  held = heldWith (openAt 5 ∷ openAt 9 ∷ []) (record { left = massTotals 0 0; right = massTotals 0 0 }) noOutlets;
 }
 
 pub record SharesWorked : Type 0 where

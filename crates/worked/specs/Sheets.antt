@@ -5,6 +5,7 @@ use Prim.Native.Nat.{ℕ}
 use lib.IntN.{pos, negℤ}
 use lib.ListN.{replicate}
 use Rattle.reach.specs.Reach.{Reach, noBoundary, heldWith}
+use Rattle.outlet.specs.Outlets.{noOutlets}
 use Rattle.reach.specs.declared.boundary.Boundary.{Boundary}
 use Rattle.sheet.specs.Opening.{emptyLedger, lent, opening}
 use Rattle.writing.specs.Writing.{outputAfter}
@@ -63,7 +64,7 @@ turnedSheet =
 
 -- columns lent for one cell
 abbrev pub lentOne : Reach
-lentOne = lent (pos 0 ∷ []) (0 ∷ []) (pos 0 ∷ []) (0 ∷ []) (0 ∷ []) (pos 0 ∷ pos 0 ∷ [])
+lentOne = lent (pos 0 ∷ []) (0 ∷ []) (pos 0 ∷ []) (0 ∷ []) (0 ∷ []) (pos 0 ∷ pos 0 ∷ []) noOutlets
 
 -- the record of the cell between given boundaries: b = h, c = 0, an empty ledger
 abbrev pub cellBetween : (left right : Boundary) → Reach
@@ -75,7 +76,7 @@ cellBetween left right = record {
   base = 262_657 ∷ [];
   carried = pos 0 ∷ pos 0 ∷ [];
   cellLength = 1_027;
-  held = heldWith (left ∷ right ∷ []) emptyLedger;
+  held = heldWith (left ∷ right ∷ []) emptyLedger noOutlets;
 }
 
 abbrev pub fedRecord : Reach

@@ -6,6 +6,7 @@ use mathlib.Core.List.{List, [], _∷_}
 use Prim.Native.Nat.{ℕ}
 use lib.IntN.{ℤ, pos, negℤ}
 use Rattle.reach.specs.Reach.{Reach, heldWith}
+use Rattle.outlet.specs.Outlets.{noOutlets}
 use Rattle.reach.specs.declared.boundary.Boundary.{Boundary}
 use Rattle.reach.specs.declared.ledger.Ledger.{Ledger}
 use Rattle.sheet.specs.Opening.{emptyTotals, emptyLedger}
@@ -24,7 +25,7 @@ dry = record {
   base = 0 ∷ 0 ∷ [];
   carried = pos 0 ∷ pos 0 ∷ pos 0 ∷ [];
   cellLength = 1_000;
-  held = heldWith (fedBy 100_000 0 (pos 800_000_000) ∷ fedBy 100_000 0 (negℤ (pos 800_000_000)) ∷ []) emptyLedger;
+  held = heldWith (fedBy 100_000 0 (pos 800_000_000) ∷ fedBy 100_000 0 (negℤ (pos 800_000_000)) ∷ []) emptyLedger noOutlets;
 }
 
 -- two cells over a bed that rises by 20,000, of base depths 300,000 and 100,000; the left boundary is fed, at 500 mm/s and concentration 7, the right one open at 3
@@ -37,7 +38,7 @@ carrying h c k = record {
   base = 300_000 ∷ 100_000 ∷ [];
   carried = c;
   cellLength = 1_000;
-  held = heldWith (fedBy 300_000 7 (pos 150_000_000) ∷ record { kind = 1; reserved = 0; depth = 0; concentration = 3; discharge = pos 0 } ∷ []) k;
+  held = heldWith (fedBy 300_000 7 (pos 150_000_000) ∷ record { kind = 1; reserved = 0; depth = 0; concentration = 3; discharge = pos 0 } ∷ []) k noOutlets;
 }
 
 -- after the step the right cell has sent 98,002 + 1,998 of its 100,000, all of them; or 98,001 + 2,000, one more than it had. The running depth, 60,000 and 125,000,
@@ -76,7 +77,7 @@ pub record StepsWorked : Type 0 where
       held = heldWith (keeping .held .boundaries) (record {
         left = record { «water_in» = 10_453; «water_out» = 0; «mass_in» = 0; «mass_out» = 0 };
         right = record { «water_in» = 0; «water_out» = 1_998; «mass_in» = 0; «mass_out» = 0 };
-      });
+      }) noOutlets;
     };
   }
   -- they are not: a transport with the old c first, then c is this step's N. 133,001·7 came in, floor(900,001·123,001 / 300,000) = 369,003 went over the middle,
@@ -95,7 +96,7 @@ pub record StepsWorked : Type 0 where
       held = heldWith (transporting .held .boundaries) (record {
         left = record { «water_in» = 10_453; «water_out» = 0; «mass_in» = 931_007; «mass_out» = 0 };
         right = record { «water_in» = 0; «water_out» = 2_000; «mass_in» = 0; «mass_out» = 490_007 };
-      });
+      }) noOutlets;
     };
   }
   -- its mass counts for ground 13: 10^18 − 931,007 has room for it, one grain more has not

@@ -1,9 +1,10 @@
 -- Document 01, 'The list of demand 3 and its tally': all eight totals of a run with open and fed boundaries, by the ledger (its 'book') and by
--- the tally. Two cells, X 1,000 mm.
+-- the tally. Two cells, X 1,000 mm, no outlet.
 use mathlib.Core.Path.{_≡_}
 use mathlib.Core.List.{List, [], _∷_}
 use Prim.Native.Nat.{ℕ}
 use lib.IntN.{pos, negℤ}
+use Rattle.outlet.specs.Outlets.{noOutlets}
 use Rattle.reach.specs.Outcome.{Outcome}
 use Rattle.reach.specs.declared.boundary.Boundary.{Boundary}
 use Rattle.reach.specs.declared.ledger.Ledger.{Ledger}
@@ -49,7 +50,7 @@ fedPair =
     ∷ []
 
 abbrev pub entry : Call → Entry
-entry c = record { free = record {}; call = c }
+entry c = record { free = record { wants = [] }; call = c }
 
 -- the step of 0 is refused by 10 and the write by 14, since water is carried
 abbrev pub calls : List Entry
@@ -64,7 +65,7 @@ calls =
     ∷ []
 
 abbrev pub opened : Outcome
-opened = opening runSheet (lent (pos 0 ∷ pos 0 ∷ []) (0 ∷ 0 ∷ []) (pos 0 ∷ pos 0 ∷ []) (0 ∷ 0 ∷ []) (0 ∷ 0 ∷ []) (pos 0 ∷ pos 0 ∷ pos 0 ∷ []))
+opened = opening runSheet (lent (pos 0 ∷ pos 0 ∷ []) (0 ∷ 0 ∷ []) (pos 0 ∷ pos 0 ∷ []) (0 ∷ 0 ∷ []) (0 ∷ 0 ∷ []) (pos 0 ∷ pos 0 ∷ pos 0 ∷ []) noOutlets)
 
 -- first step: 600 in at the left, 297 out at the right; the setting moves 600·13 grains in and floor(50,003·297 / 35,000) out.
 -- Second step: 465 out at the left, 1,089 in at the right; the transport moves 1,089·5 grains in, and out
@@ -78,7 +79,7 @@ totals = record {
 pub record TotalsWorked : Type 0 where
   pub accepted : opened .refusal ≡ 0
   pub ledger : final (opened .reach) calls .held .ledger ≡ totals
-  pub sums : run (start runSheet) calls .sums ≡ totals
+  pub sums : run (start runSheet noOutlets) calls .sums ≡ totals
   -- 75,000 of water and 600 + 1,089 − 465 − 297; 140,004 grains and 7,800 + 5,445 − 1,121 − 424
   pub depths : final (opened .reach) calls .depth ≡ 38_990 ∷ 36_937 ∷ []
   pub masses : final (opened .reach) calls .mass ≡ 94_012 ∷ 57_692 ∷ []

@@ -9,27 +9,32 @@ use lib.Dec.{leb, eqb}
 use lib.IntN.{ℤ, pos, negsuc, natAbs}
 use lib.ListN.{length, getD, take, drop, replicate, length-append, length-map, length-replicate, getD-replicate, List·getD-map}
 use lib.Seq.{ext-getD, take-at, take-all}
-use Rattle.numbers.specs.Index.{tabulate}
-use Rattle.numbers.proofs.IndexLaws.{and-both, and-left, and-right, all-of, all-at, all-below, on, only, length-tabulate}
+use Rattle.numbers.specs.Index.{sum, tabulate}
+use Rattle.numbers.proofs.IndexLaws.{and-both, and-left, and-right, all-of, all-at, all-below, on, only, length-tabulate, sum-tabulate, sum-none}
+use Rattle.outlet.specs.Outlets.{outletsMost, outletAt, cleared, fromCell}
+use Rattle.outlet.specs.declared.Outlet.{Outlet}
+use Rattle.outlet.specs.declared.Outlets.{Outlets}
+use Rattle.outlet.proofs.ClearingLaws.{cleared-at, cleared-count}
 use Rattle.flux.specs.Limits.{cellLengthMost}
 use Rattle.reach.specs.Limits.{cellsMost, wall, openBoundary, fed}
 use Rattle.reach.specs.Reach.{Reach, reachOf, cells, leftBoundary, rightBoundary, bedAt, depthAt, dischargeAt, massAt, baseAt, carriedAt, heldWith}
-use Rattle.reach.specs.Grounds.{Ground, firstRefusal, recordGrounds, cellLengthFits, kindFits, boundaryFits, boundariesFit, cellsFit}
+use Rattle.reach.specs.Grounds.{Ground, firstRefusal, recordGrounds, cellLengthFits, kindFits, boundaryFits, boundariesFit, cellsFit, outletsFit}
+use Rattle.reach.specs.Parts.{drawnFrom}
 use Rattle.reach.specs.Outcome.{Outcome, outcome}
 use Rattle.reach.specs.declared.boundary.Boundary.{Boundary}
 use Rattle.reach.specs.declared.refusal.Check.{Check}
 use Rattle.reach.specs.declared.refusal.Check.the-variants.{Pass, Refused}
 use Rattle.reach.proofs.GroundsLaws.{stood, go-on, further, passed-first}
 use Rattle.reach.proofs.PartsLaws.{outflow-is}
-use Rattle.reach.proofs.Sound.{boundary-sound, CarriedSound, Sound, sound, stands}
+use Rattle.reach.proofs.Sound.{boundary-sound, CarriedSound, Sound, sound, stands, outlets-few}
 use Rattle.encoding.specs.FromBytes.{numberAt, twos, columnAt}
 use Rattle.sheet.specs.Header.{sheetSize, editionOf, lengthOf, countOf, cellLengthOf, bedsAt, depthsAt, dischargesAt, massesAt, boundaryAt, boundariesOf, editionFits, sizeFits, Span, span, inside, apart, columnsClear, spansOf}
 use Rattle.sheet.specs.Opening.{emptyLedger, sheetRecord, lentFit, openGrounds, opening}
 use Rattle.sheet.proofs.HeaderLaws.{four-clear}
 use Rattle.sheet.proofs.OpeningLaws.{accepted, opened-passes, opened-sound}
 use Rattle.encoding.specs.ToBytes.{bitsIn, bits, columnBytes, written}
-use Rattle.writing.specs.Writing.{boundaryBytes, bedsFrom, depthsFrom, dischargesFrom, massesFrom, headerBytes, sheetBytes, noneCarried, roomFits, writeGrounds, outputBy, writeRefusal, outputAfter}
-use Rattle.writing.specs.RoundTrip.{LentFor, withEmptyLedger, ReadsBack, InWritersOrder, WrittenAgain}
+use Rattle.writing.specs.Writing.{boundaryBytes, bedsFrom, depthsFrom, dischargesFrom, massesFrom, headerBytes, sheetBytes, noneCarried, noneDrawn, roomFits, writeGrounds, outputBy, writeRefusal, outputAfter}
+use Rattle.writing.specs.RoundTrip.{LentFor, readBack, ReadsBack, InWritersOrder, WrittenAgain}
 use Rattle.encoding.proofs.ToBytesLaws.{length-column}
 use Rattle.writing.proofs.WritingLaws.{length-boundary, length-header}
 use Rattle.encoding.proofs.BytesBack.{number-past, word-back, column-back, bits4-below, bits8-below, twos-bits4, twos-bits8, AllBytes, all-bytes, joined, column-again, turned-again, bits-twos4, bits-twos8}
@@ -240,7 +245,7 @@ module _ (s : Reach) where
     headed =
         header-back n (s .cellLength) (s .held .boundaries) (bedColumn ++ (depthColumn ++ (dischargeColumn ++ massColumn))) (k .few) (k .lengthMost) (k .boundaries)
 
--- ---- a record that carries nothing
+-- ---- a record that carries nothing, and of which nothing is drawn
 
 no-size : (z : ℤ) → natAbs z ≡ 0 → z ≡ pos 0
 no-size (pos n) e = ap pos e
@@ -250,17 +255,30 @@ transported-at : (c : List ℤ) → noneCarried c ≡ true → (i : ℕ) → i <
 unfolding noneCarried
 transported-at c e i l = no-size (getD c i (pos 0)) (eqb-true _ _ (all-at (λ i. eqb (natAbs (getD c i (pos 0))) 0) (length c) i e l))
 
--- with nothing carried, base depth and depth agree
-still : (h b : ℕ) (l r : ℤ) → CarriedSound h b l r → l ≡ pos 0 → r ≡ pos 0 → h ≡ b
-still h b l r k e f = let m = rw (e, f) at (k .balance) in omega (arith, m, outflow-is (pos 0) (pos 0))
+undrawn-at : (os : Outlets) → noneDrawn os ≡ true → (i : ℕ) → sum (drawnFrom os i) ≡ 0
+unfolding noneDrawn fromCell
+undrawn-at os e i =
+    let from : Outlet → ℕ = λ o. cond (eqb (o .cell) i) (o .drawn) 0 in
+    sum-tabulate (os .count) (λ k. from (outletAt os k))
+    ∙ sum-none (os .count) (λ k. from (outletAt os k))
+    (λ k l. none (eqb (outletAt os k .cell) i) (outletAt os k .drawn) (eqb-true _ _ (all-at (λ k. eqb (outletAt os k .drawn) 0) (os .count) k e l)))
+  where
+    none : (b : Bool) (x : ℕ) → x ≡ 0 → cond b x 0 ≡ 0
+    none true x z = z
+    none false x z = refl
 
-transported-base : (s : Reach) → Sound s → noneCarried (s .carried) ≡ true → s .depth ≡ s .base
-transported-base s k e =
+-- with nothing carried and nothing drawn, base depth and depth agree
+still : (h b : ℕ) (l r : ℤ) (ds : List ℕ) → CarriedSound h b l r ds → l ≡ pos 0 → r ≡ pos 0 → sum ds ≡ 0 → h ≡ b
+still h b l r ds k e f d = let m = rw (e, f) at (k .balance) in omega (arith, m, d, outflow-is (pos 0) (pos 0) ds)
+
+transported-base : (s : Reach) → Sound s → noneCarried (s .carried) ≡ true → noneDrawn (s .held .outlets) ≡ true → s .depth ≡ s .base
+transported-base s k e d =
     ext-getD 0 (s .depth) (s .base) (k .depths ∙ sym (k .bases))
     (λ i l.
     let j : i < cells s = omega (arith, k .depths) in
-    still (depthAt s i) (baseAt s i) (carriedAt s i) (carriedAt s (i + 1)) (k .water i j)
-    (transported-at (s .carried) e i (omega (arith, k .interfaces))) (transported-at (s .carried) e (i + 1) (omega (arith, k .interfaces))))
+    still (depthAt s i) (baseAt s i) (carriedAt s i) (carriedAt s (i + 1)) (drawnFrom (s .held .outlets) i) (k .water i j)
+    (transported-at (s .carried) e i (omega (arith, k .interfaces))) (transported-at (s .carried) e (i + 1) (omega (arith, k .interfaces)))
+    (undrawn-at (s .held .outlets) d i))
 
 transported-none : (s : Reach) → Sound s → noneCarried (s .carried) ≡ true → replicate (cells s + 1) (pos 0) ≡ s .carried
 transported-none s k e =
@@ -279,23 +297,24 @@ boundaries-back : (t : List ℕ) (n X : ℕ) (es : List Boundary) → Headed t n
 unfolding boundariesOf
 boundaries-back t n X es h two = ap₂ (λ (a b : Boundary). a ∷ b ∷ []) (h .left) (h .right) ∙ pair es two
 
-same-reach : {z z′ : List ℤ} {h h′ : List ℕ} {q q′ : List ℤ} {m m′ b b′ : List ℕ} {c c′ : List ℤ} {X X′ : ℕ} {es es′ : List Boundary}
+same-reach : {z z′ : List ℤ} {h h′ : List ℕ} {q q′ : List ℤ} {m m′ b b′ : List ℕ} {c c′ : List ℤ} {X X′ : ℕ} {es es′ : List Boundary} (os : Outlets)
     → z ≡ z′ → h ≡ h′ → q ≡ q′ → m ≡ m′ → b ≡ b′ → c ≡ c′ → X ≡ X′ → es ≡ es′
-    → reachOf z h q m b c X (heldWith es emptyLedger) ≡ reachOf z′ h′ q′ m′ b′ c′ X′ (heldWith es′ emptyLedger)
-same-reach e₁ e₂ e₃ e₄ e₅ e₆ e₇ e₈ = rw (e₁, e₂, e₃, e₄, e₅, e₆, e₇, e₈) refl
+    → reachOf z h q m b c X (heldWith es emptyLedger (cleared os)) ≡ reachOf z′ h′ q′ m′ b′ c′ X′ (heldWith es′ emptyLedger (cleared os))
+same-reach os e₁ e₂ e₃ e₄ e₅ e₆ e₇ e₈ = rw (e₁, e₂, e₃, e₄, e₅, e₆, e₇, e₈) refl
 
-record-back : (s : Reach) → Sound s → noneCarried (s .carried) ≡ true → length (s .held .boundaries) ≡ 2 → sheetRecord (sheetBytes s) ≡ withEmptyLedger s
+record-back : (s : Reach) (os : Outlets) → Sound s → noneCarried (s .carried) ≡ true → noneDrawn (s .held .outlets) ≡ true → length (s .held .boundaries) ≡ 2
+    → sheetRecord (sheetBytes s) os ≡ readBack s os
 unfolding sheetRecord
-record-back s k e two =
+record-back s os k e d two =
     let t = sheetBytes s in
     let h = headed s k in
     let depths = ap₂ (λ (at n : ℕ). columnAt (λ v. v) 4 t at n) (h .depths) (h .count) ∙ depths-back s k in
-    same-reach
+    same-reach os
     (ap₂ (λ (at n : ℕ). columnAt (twos 4) 4 t at n) (h .beds) (h .count) ∙ beds-back s k)
     depths
     (ap₂ (λ (at n : ℕ). columnAt (twos 8) 8 t at n) (h .discharges) (h .count) ∙ discharges-back s k)
     (ap₂ (λ (at n : ℕ). columnAt (λ v. v) 8 t at n) (h .masses) (h .count) ∙ masses-back s k)
-    (depths ∙ transported-base s k e)
+    (depths ∙ transported-base s k e d)
     (ap (λ (n : ℕ). replicate (n + 1) (pos 0)) (h .count) ∙ transported-none s k e)
     (h .cellLength)
     (boundaries-back t (cells s) (s .cellLength) (s .held .boundaries) h two)
@@ -359,10 +378,12 @@ no-grounds : firstRefusal [] ≡ Pass
 unfolding firstRefusal
 no-grounds = refl
 
-opens : (s l : Reach) → firstRefusal (recordGrounds s (s .held .boundaries)) ≡ Pass → noneCarried (s .carried) ≡ true → length (s .held .boundaries) ≡ 2 → LentFor (cells s) l
-    → opening (sheetBytes s) l ≡ record { refusal = 0; reach = withEmptyLedger s }
-opens s l e f two lf =
+opens : (s l : Reach) → firstRefusal (recordGrounds s (s .held .boundaries)) ≡ Pass → noneCarried (s .carried) ≡ true → noneDrawn (s .held .outlets) ≡ true
+    → length (s .held .boundaries) ≡ 2 → LentFor (cells s) l → outletsFit (cells s) (l .held .outlets) ≡ true
+    → opening (sheetBytes s) l ≡ record { refusal = 0; reach = readBack s (l .held .outlets) }
+opens s l e f d two lf of =
     let t = sheetBytes s in
+    let os = l .held .outlets in
     let g = stood (recordGrounds s (s .held .boundaries)) e in
     let k = sound s (s .held .boundaries) e in
     let h = headed s k in
@@ -370,8 +391,8 @@ opens s l e f two lf =
     let X = s .cellLength in
     let n = cells s in
     let es = s .held .boundaries in
-    let same = record-back s k f two in
-    let gs = openGrounds t (length (l .bed)) (length (l .depth)) (length (l .discharge)) (length (l .mass)) (length (l .base)) (length (l .carried)) in
+    let same = record-back s os k f d two in
+    let gs = openGrounds t (length (l .bed)) (length (l .depth)) (length (l .discharge)) (length (l .mass)) (length (l .base)) (length (l .carried)) os in
     let passes : firstRefusal gs ≡ Pass =
     go-on _ _ (edition-stands t n X es h long)
     (go-on _ _ (size-stands t n X es h long (k .some) (k .few))
@@ -380,7 +401,8 @@ opens s l e f two lf =
     (go-on _ _ (ap cellLengthFits (h .cellLength) ∙ g 1)
     (go-on _ _ (ap boundariesFit (boundaries-back t n X es h two) ∙ g 2)
     (go-on _ _ (ap (λ (r : Reach). cellsFit (r .bed) (r .depth) (r .discharge) (r .mass) (r .base)) same ∙ g 4)
-    no-grounds)))))) in
+    (go-on _ _ (ap (λ (n : ℕ). outletsFit n os) (h .count) ∙ of)
+    no-grounds))))))) in
     accepted t l passes ∙ ap (λ (r : Reach). record { refusal = 0; reach = r }) same
 
 output-passed : (s : Reach) (out : List ℕ) → writeRefusal s (length out) ≡ Pass → outputAfter s out ≡ written (sheetBytes s) out
@@ -396,14 +418,15 @@ unfolding writeRefusal
 write-grounds s room e = e
 
 pub reads-back : ReadsBack
-reads-back s out l two pass lf =
+reads-back s out l two pass lf of =
     let e = write-grounds s (length out) pass in
     let r = passed-first (recordGrounds s (s .held .boundaries)) _ e in
     let k = sound s (s .held .boundaries) r in
+    let due = stood (writeGrounds s (length out)) e 8 in
     ap (λ (t : List ℕ). opening t l)
     (ap (take (sheetSize (cells s))) (output-passed s out pass)
     ∙ written-first (sheetBytes s) out (sheetSize (cells s)) (length-sheet s (columns s k)))
-    ∙ opens s l r (stood (writeGrounds s (length out)) e 7) two lf
+    ∙ opens s l r (and-left (noneCarried (s .carried)) (noneDrawn (s .held .outlets)) due) (and-right (noneCarried (s .carried)) (noneDrawn (s .held .outlets)) due) two lf of
 
 -- ---- a sheet written again
 
@@ -452,14 +475,14 @@ module _ (s : List ℕ) (bytes : AllBytes s) where
       = ap₂ app e₂ hm ∙ joined s 80 (4 * n) (4 * n + (8 * n + 8 * n)) (80 + 4 * n) refl in
       ap₂ app e₁ zm ∙ joined s 0 80 (4 * n + (4 * n + (8 * n + 8 * n))) 80 refl ∙ take-all (80 + (4 * n + (4 * n + (8 * n + 8 * n)))) s (omega arith)
 
-  cells-are : cells (sheetRecord s) ≡ countOf s
+  cells-are : (os : Outlets) → cells (sheetRecord s os) ≡ countOf s
   unfolding sheetRecord columnAt
-  cells-are = length-tabulate (countOf s) _
+  cells-are os = length-tabulate (countOf s) _
 
-  sheet-again : Headed s (countOf s) (cellLengthOf s) (boundariesOf s) → length s ≡ sheetSize (countOf s) → boundariesFit (boundariesOf s) ≡ true
-      → sheetBytes (sheetRecord s) ≡ s
+  sheet-again : (os : Outlets) → Headed s (countOf s) (cellLengthOf s) (boundariesOf s) → length s ≡ sheetSize (countOf s) → boundariesFit (boundariesOf s) ≡ true
+      → sheetBytes (sheetRecord s os) ≡ s
   unfolding sheetBytes sheetRecord sheetSize
-  sheet-again h l f =
+  sheet-again os h l f =
       let n = countOf s in
       let X = cellLengthOf s in
       let beds : columnBytes 4 (map (bits 4) (columnAt (twos 4) 4 s (bedsAt s) n)) ≡ take (4 * n) (drop 80 s)
@@ -472,7 +495,7 @@ module _ (s : List ℕ) (bytes : AllBytes s) where
       ∙ turned-again (twos 8) (bits 8) 8 s (80 + 8 * n) n bytes (omega arith) bits-twos8 in
       let masses : columnBytes 8 (columnAt (λ v. v) 8 s (massesAt s) n) ≡ take (8 * n) (drop (80 + 16 * n) s)
       = ap (λ (at : ℕ). columnBytes 8 (columnAt (λ v. v) 8 s at n)) (h .masses) ∙ column-again 8 s (80 + 16 * n) n bytes (omega arith) in
-      pieces n _ _ _ _ _ l (ap (λ (k : ℕ). headerBytes k X (boundariesOf s)) cells-are ∙ header-again n X h (omega arith) f) beds depths discharges masses
+      pieces n _ _ _ _ _ l (ap (λ (k : ℕ). headerBytes k X (boundariesOf s)) (cells-are os) ∙ header-again n X h (omega arith) f) beds depths discharges masses
 
 -- ---- its record is written
 
@@ -484,18 +507,24 @@ transported-replicate m =
     eq-eqb (natAbs (getD (replicate m (pos 0)) i (pos 0))) 0
     (ap natAbs (getD-replicate m i (pos 0) (pos 0) (omega (arith, length-replicate m (pos 0))))))
 
-opened-transported : (s : List ℕ) → noneCarried (sheetRecord s .carried) ≡ true
+opened-transported : (s : List ℕ) (os : Outlets) → noneCarried (sheetRecord s os .carried) ≡ true
 unfolding sheetRecord
-opened-transported s = transported-replicate (countOf s + 1)
+opened-transported s os = transported-replicate (countOf s + 1)
 
-write-passes : (r : Reach) (room : ℕ) → firstRefusal (recordGrounds r (r .held .boundaries)) ≡ Pass → noneCarried (r .carried) ≡ true → sheetSize (cells r) ≤ room
-    → writeRefusal r room ≡ Pass
+opened-undrawn : (s : List ℕ) (os : Outlets) → os .count ≤ outletsMost → noneDrawn (sheetRecord s os .held .outlets) ≡ true
+unfolding sheetRecord noneDrawn
+opened-undrawn s os few =
+    rw (cleared-count os) (all-below _ (os .count) (λ k l. eq-eqb (outletAt (cleared os) k .drawn) 0 (ap (λ (o : Outlet). o .drawn) (cleared-at os few k l))))
+
+write-passes : (r : Reach) (room : ℕ) → firstRefusal (recordGrounds r (r .held .boundaries)) ≡ Pass → noneCarried (r .carried) ≡ true → noneDrawn (r .held .outlets) ≡ true
+    → sheetSize (cells r) ≤ room → writeRefusal r room ≡ Pass
 unfolding writeRefusal roomFits
-write-passes r room e f g = further (recordGrounds r (r .held .boundaries)) _ e ∙ go-on _ _ f (go-on _ _ (le-leb _ _ g) no-grounds)
+write-passes r room e f d g =
+    further (recordGrounds r (r .held .boundaries)) _ e ∙ go-on _ _ (and-both (noneCarried (r .carried)) (noneDrawn (r .held .outlets)) f d) (go-on _ _ (le-leb _ _ g) no-grounds)
 
 module _ (s : List ℕ) (l : Reach) where
   abbrev grounds : List Ground
-  grounds = openGrounds s (length (l .bed)) (length (l .depth)) (length (l .discharge)) (length (l .mass)) (length (l .base)) (length (l .carried))
+  grounds = openGrounds s (length (l .bed)) (length (l .depth)) (length (l .discharge)) (length (l .mass)) (length (l .base)) (length (l .carried)) (l .held .outlets)
 
 -- columns that are clear of each other lie one behind the other by their starts
 before : (a b : Span) → apart a b ≡ true → a .start < b .start → a .start + a .size ≤ b .start
@@ -576,14 +605,15 @@ pub written-again : WrittenAgain
 written-again sheet l out bytes order opened room =
     let p = opened-passes sheet l opened in
     let g = stood (grounds sheet l) p in
-    let r = sheetRecord sheet in
+    let os = l .held .outlets in
+    let r = sheetRecord sheet os in
     let b = all-bytes sheet bytes in
-    let k = opened-sound sheet _ _ _ _ _ _ p in
+    let k = opened-sound sheet _ _ _ _ _ _ os p in
     let long = opened-long sheet (g 1) in
     let fits : writeRefusal r (length out) ≡ Pass
-    = write-passes r (length out) (stands r (r .held .boundaries) k (k .boundaries)) (opened-transported sheet)
-    (omega (arith, room, ap sheetSize (cells-are sheet b), long)) in
+    = write-passes r (length out) (stands r (r .held .boundaries) k (k .boundaries)) (opened-transported sheet os) (opened-undrawn sheet os (outlets-few (countOf sheet) os (g 7)))
+    (omega (arith, room, ap sheetSize (cells-are sheet b os), long)) in
     let same : opening sheet l .reach ≡ r = ap (λ (o : Outcome). o .reach) (accepted sheet l p) in
-    let again : sheetBytes r ≡ sheet = sheet-again sheet b (opened-headed sheet (g 0) (g 1) (in-place sheet long (g 2) order)) long (g 5) in
+    let again : sheetBytes r ≡ sheet = sheet-again sheet b os (opened-headed sheet (g 0) (g 1) (in-place sheet long (g 2) order)) long (g 5) in
     subst (λ (x : Reach). (writeRefusal x (length out) ≡ Pass) × (outputAfter x out ≡ written sheet out)) (sym same)
     (fits, output-passed r out fits ∙ ap (λ (t : List ℕ). written t out) again)

@@ -1,6 +1,6 @@
 -- Laws of writing: the sheet from its parts, and what each outcome of a write is. Assumes nothing.
 use mathlib.Core.Path.{_≡_, refl, sym, ap, _∙_}
-use mathlib.Core.Bool.{true, false}
+use mathlib.Core.Bool.{Bool, true, false, _&&_}
 use mathlib.Core.List.{List, [], _∷_, _++_, append-assoc, map}
 use Prim.Native.Nat.{ℕ, _+_, _-_, _*_, _≤_, _<_}
 use native.Mathlib.Omega.{arith}
@@ -17,7 +17,7 @@ use Rattle.reach.proofs.Sound.{Sound, sound}
 use Rattle.encoding.proofs.ToBytesLaws.{written-part, next, length-column}
 use Rattle.sheet.specs.Header.{sheetSize}
 use Rattle.encoding.specs.ToBytes.{bytesOf, bits, columnBytes, written}
-use Rattle.writing.specs.Writing.{boundaryBytes, bedsFrom, depthsFrom, dischargesFrom, massesFrom, headerBytes, sheetBytes, noneCarried, roomFits, writeGrounds, writeRefusal, outputBy, outputAfter, writtenWith, WriteCameTo}
+use Rattle.writing.specs.Writing.{boundaryBytes, bedsFrom, depthsFrom, dischargesFrom, massesFrom, headerBytes, sheetBytes, noneCarried, noneDrawn, roomFits, writeGrounds, writeRefusal, outputBy, outputAfter, writtenWith, WriteCameTo}
 use Rattle.writing.specs.declared.write.WriteAnswer.{WriteAnswer}
 
 -- ---- the header
@@ -99,16 +99,22 @@ module _ (s : Reach) (room : ℕ) where
   unfolding writeRefusal
   stopped-before n e = no-further (recordGrounds s (s .held .boundaries)) _ n e
 
-  pub stopped-14 : firstRefusal (recordGrounds s (s .held .boundaries)) ≡ Pass → noneCarried (s .carried) ≡ false → writeRefusal s room ≡ Refused 14
-  unfolding writeRefusal
-  stopped-14 e f = further (recordGrounds s (s .held .boundaries)) _ e ∙ stop-at (ground 14 (noneCarried (s .carried))) _ f
+  -- the record stands, so 14 decides, of the carried water first
+  module _ (e : firstRefusal (recordGrounds s (s .held .boundaries)) ≡ Pass) where
+    pub stopped-carried : noneCarried (s .carried) ≡ false → writeRefusal s room ≡ Refused 14
+    unfolding writeRefusal
+    stopped-carried f = further (recordGrounds s (s .held .boundaries)) _ e ∙ stop-at _ _ (rw f refl)
 
-  pub room-left : firstRefusal (recordGrounds s (s .held .boundaries)) ≡ Pass → noneCarried (s .carried) ≡ true → writeRefusal s room ≡ passOr 15 (roomFits (cells s) room)
-  unfolding writeRefusal
-  room-left e f = further (recordGrounds s (s .held .boundaries)) _ e ∙ go-on (ground 14 (noneCarried (s .carried))) _ f (last-one 15 _)
+    pub stopped-drawn : noneCarried (s .carried) ≡ true → noneDrawn (s .held .outlets) ≡ false → writeRefusal s room ≡ Refused 14
+    unfolding writeRefusal
+    stopped-drawn f g = further (recordGrounds s (s .held .boundaries)) _ e ∙ stop-at _ _ (rw (f, g) refl)
 
-  pub stopped-15 : firstRefusal (recordGrounds s (s .held .boundaries)) ≡ Pass → noneCarried (s .carried) ≡ true → roomFits (cells s) room ≡ false → writeRefusal s room ≡ Refused 15
-  stopped-15 e f g = room-left e f ∙ sym (refuses 15 g)
+    pub room-left : noneCarried (s .carried) ≡ true → noneDrawn (s .held .outlets) ≡ true → writeRefusal s room ≡ passOr 15 (roomFits (cells s) room)
+    unfolding writeRefusal
+    room-left f g = further (recordGrounds s (s .held .boundaries)) _ e ∙ go-on _ _ (rw (f, g) refl) (last-one 15 _)
+
+    pub stopped-15 : noneCarried (s .carried) ≡ true → noneDrawn (s .held .outlets) ≡ true → roomFits (cells s) room ≡ false → writeRefusal s room ≡ Refused 15
+    stopped-15 f g h = room-left f g ∙ sym (refuses 15 h)
 
   -- what an accepted write tells
   pub write-sound : writeRefusal s room ≡ Pass → Sound s
@@ -117,7 +123,7 @@ module _ (s : Reach) (room : ℕ) where
 
   pub write-room : writeRefusal s room ≡ Pass → sheetSize (cells s) ≤ room
   unfolding writeRefusal roomFits
-  write-room e = leb-true _ _ (stood (writeGrounds s room) e 8)
+  write-room e = leb-true _ _ (stood (writeGrounds s room) e 9)
 
 -- ---- what each outcome of a write is
 module _ (s : Reach) (out : List ℕ) where

@@ -1,12 +1,14 @@
--- Document 01, 'The sheet' (writing), and grounds 14 and 15.
+-- Document 01, 'The sheet' (writing), and grounds 14 and 15; document 02, point 1: drawn water in 14.
 use mathlib.Core.Path.{_≡_}
-use mathlib.Core.Bool.{Bool}
+use mathlib.Core.Bool.{Bool, _&&_}
 use mathlib.Core.List.{List, [], _∷_, _++_, map}
 use Prim.Native.Nat.{ℕ, _+_, _*_}
 use lib.Dec.{leb, eqb}
 use lib.IntN.{ℤ, pos, natAbs}
 use lib.ListN.{length, getD}
 use Rattle.numbers.specs.Index.{allBelow}
+use Rattle.outlet.specs.Outlets.{outletAt}
+use Rattle.outlet.specs.declared.Outlets.{Outlets}
 use Rattle.reach.specs.Reach.{Reach, cells, leftBoundary, rightBoundary}
 use Rattle.reach.specs.Grounds.{Ground, ground, firstRefusal, numberOf, recordGrounds}
 use Rattle.reach.specs.declared.boundary.Boundary.{Boundary}
@@ -55,13 +57,19 @@ sheetBytes s =
 unfoldable pub noneCarried : List ℤ → Bool
 noneCarried c = allBelow (length c) (λ i. eqb (natAbs (getD c i (pos 0))) 0)
 
+-- '8 and 14 include drawn water': and no outlet has drawn since the last transport
+unfoldable pub noneDrawn : Outlets → Bool
+noneDrawn os = allBelow (os .count) (λ k. eqb (outletAt os k .drawn) 0)
+
 -- ---- 15: the output, of `room` bytes, is not shorter than the sheet
 unfoldable pub roomFits : (n room : ℕ) → Bool
 roomFits n room = leb (sheetSize n) room
 
--- 4 to 9, then 14 and 15
+-- 4 to 9 and 16, then 14 and 15
 abbrev pub writeGrounds : Reach → (room : ℕ) → List Ground
-writeGrounds s room = recordGrounds s (s .held .boundaries) ++ (ground 14 (noneCarried (s .carried)) ∷ ground 15 (roomFits (cells s) room) ∷ [])
+writeGrounds s room =
+    recordGrounds s (s .held .boundaries)
+    ++ (ground 14 (noneCarried (s .carried) && noneDrawn (s .held .outlets)) ∷ ground 15 (roomFits (cells s) room) ∷ [])
 
 -- the sheet stands at the start of the output, whose other bytes keep their values; a refused write leaves the output as it came
 abbrev pub outputBy : Check → Reach → (out : List ℕ) → List ℕ
@@ -77,7 +85,7 @@ outputAfter s out = outputBy (writeRefusal s (length out)) s out
 abbrev pub writtenWith : ℕ → Held → WriteAnswer
 writtenWith n k = record { refusal = n; held = k }
 
--- a write came out as the definitions say: every field of its answer, and the output; boundaries and ledger are handed back as they came
+-- a write came out as the definitions say: every field of its answer, and the output; boundaries, ledger and outlets are handed back as they came
 pub record WriteCameTo (s : Reach) (out : List ℕ) (r : WriteAnswer) (out' : List ℕ) : Type 0 where
   pub refusal-is : r .refusal ≡ numberOf (writeRefusal s (length out))
   pub held-is : r .held ≡ s .held

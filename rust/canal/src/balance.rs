@@ -1,11 +1,11 @@
-//! What a record held before a run and holds after it, what passed its boundaries, and whether the two agree.
+//! What a record held before a run and holds after it, what passed its boundaries and outlets, and whether the two agree.
 
 use crate::record::Record;
 use crate::units::{cubic_metres, grams};
-use jemmyfern::{Ledger, Totals};
+use jemmyfern::{Ledger, Outlet, Totals};
 use std::fmt;
 
-/// Sums over the cells.
+/// Sums over the cells, or over the outlets.
 #[derive(Clone, Copy, Debug, PartialEq, Eq)]
 pub struct Held {
     /// micrometres of depth of a cell
@@ -22,6 +22,15 @@ impl Held {
             mass: sum(&record.mass),
         }
     }
+
+    /// What all outlets drew since the opening.
+    pub fn drawn(outlets: &[Outlet]) -> Held {
+        let sum = |f: fn(&Outlet) -> u64| outlets.iter().map(|o| u128::from(f(o))).sum();
+        Held {
+            water: sum(|o| o.water),
+            mass: sum(|o| o.mass),
+        }
+    }
 }
 
 /// The account of a run, from the opening of the record on.
@@ -30,6 +39,8 @@ pub struct Balance {
     pub before: Held,
     pub after: Held,
     pub ledger: Ledger,
+    /// None without outlets
+    pub drawn: Option<Held>,
     /// mm
     pub cell_length: u64,
 }
@@ -41,41 +52,48 @@ impl Balance {
             before,
             after: Held::by(record),
             ledger: record.ledger,
+            drawn: (!record.outlets.is_empty()).then(|| Held::drawn(&record.outlets)),
             cell_length: record.cell_length,
         }
     }
 
-    /// Opening and what came in are what went out and is held, to the unit.
+    /// Opening and what came in are what went out, was drawn and is held, to the unit.
     pub fn closes(&self) -> bool {
         let Ledger { left, right } = &self.ledger;
         let sum = |f: fn(&Totals) -> u64| u128::from(f(left)) + u128::from(f(right));
-        let water =
-            self.before.water + sum(|t| t.water_in) == self.after.water + sum(|t| t.water_out);
-        let mass = self.before.mass + sum(|t| t.mass_in) == self.after.mass + sum(|t| t.mass_out);
+        let drawn = |f: fn(&Held) -> u128| self.drawn.as_ref().map_or(0, f);
+        let water = self.before.water + sum(|t| t.water_in)
+            == self.after.water + sum(|t| t.water_out) + drawn(|d| d.water);
+        let mass = self.before.mass + sum(|t| t.mass_in)
+            == self.after.mass + sum(|t| t.mass_out) + drawn(|d| d.mass);
         water && mass
     }
 
-    fn rows(&self) -> [(&'static str, u128, u128); 6] {
+    fn rows(&self) -> Vec<(&'static str, u128, u128)> {
         let Ledger { left, right } = &self.ledger;
         let passed = |name, water: u64, mass: u64| (name, water.into(), mass.into());
-        [
+        let mut rows = vec![
             ("held before", self.before.water, self.before.mass),
             passed("in at the left", left.water_in, left.mass_in),
             passed("in at the right", right.water_in, right.mass_in),
             passed("out at the left", left.water_out, left.mass_out),
             passed("out at the right", right.water_out, right.mass_out),
-            ("held after", self.after.water, self.after.mass),
-        ]
+        ];
+        rows.extend(self.drawn.map(|d| ("drawn by outlets", d.water, d.mass)));
+        rows.push(("held after", self.after.water, self.after.mass));
+        rows
     }
 }
+
+/// The heads of a table of water and mass.
+pub(crate) const HEADS: [&str; 5] = ["", "water: µm", "m³/m", "mass: grains", "g/m"];
 
 /// A table with a line for each sum and the conversions under it.
 impl fmt::Display for Balance {
     fn fmt(&self, f: &mut fmt::Formatter<'_>) -> fmt::Result {
         let length = self.cell_length;
-        let heads = ["", "water: µm", "m³/m", "mass: grains", "g/m"].map(String::from);
-        let mut lines = vec![heads];
-        lines.extend(self.rows().map(|(name, water, mass)| {
+        let mut lines = vec![HEADS.map(String::from)];
+        lines.extend(self.rows().into_iter().map(|(name, water, mass)| {
             let (volume, weight) = (cubic_metres(water, length), grams(mass, length));
             [
                 name.into(),
@@ -91,9 +109,10 @@ impl fmt::Display for Balance {
         } else {
             "DOES NOT CLOSE"
         };
+        let drawn = self.drawn.map_or("", |_| " - drawn");
         writeln!(
             f,
-            "The balance {closes}: held before + in - out = held after."
+            "The balance {closes}: held before + in - out{drawn} = held after."
         )?;
         writeln!(f, "Water is in µm of depth of one cell of {length} mm: 1 µm is {} m³ per metre of width (m³/m).", cubic_metres(1, length))?;
         writeln!(
@@ -109,7 +128,7 @@ impl fmt::Display for Balance {
 }
 
 /// Names to the left, numbers to the right of their columns.
-fn write_aligned(f: &mut fmt::Formatter<'_>, lines: &[[String; 5]]) -> fmt::Result {
+pub(crate) fn write_aligned(f: &mut impl fmt::Write, lines: &[[String; 5]]) -> fmt::Result {
     let width = |i: usize| {
         lines
             .iter()

@@ -1,5 +1,5 @@
 //! Sheets of a canal reach: an owned record over the proved library, a text form that a person writes, words for what a sheet holds or why it
-//! is refused, runs with their balance, and charts.
+//! is refused, outlets, runs with their balance, and charts.
 
 pub mod balance;
 pub mod chart;
@@ -8,6 +8,7 @@ pub mod duration;
 pub mod explain;
 pub mod layout;
 pub mod limits;
+pub mod outlets;
 pub mod plot;
 pub mod record;
 pub mod run;

@@ -8,6 +8,10 @@ pub const CELL_LENGTH_MOST: u32 = 100_000;
 pub const BED_MOST: i64 = 100_000_000;
 /// Micrometres.
 pub const DEPTH_MOST: u64 = 4_000_000;
+/// Entries of a list of outlets.
+pub const OUTLETS_MOST: usize = jemmyfern::OUTLETS_MOST;
+/// Micrometres per step.
+pub const WANT_MOST: u64 = 4_000_000;
 /// mm/s: a discharge is at most this times its depth, either way.
 pub const VELOCITY_MOST: u64 = 8_000;
 /// Micrograms per litre: a mass is at most this times its base depth.

@@ -1,7 +1,7 @@
 //! A record that owns its columns.
 
 use crate::layout::{self, COLUMNS, HEADER};
-use jemmyfern::{sheet_size, Boundary, Columns, Ledger, Reach, Refusal, CELLS_MOST};
+use jemmyfern::{sheet_size, Boundary, Columns, Ledger, Outlet, Reach, Refusal, CELLS_MOST};
 
 /// The columns of a reach and all that travels with them. Units and limits are those of [`jemmyfern::Columns`].
 ///
@@ -29,6 +29,8 @@ pub struct Record {
     pub base: Vec<u64>,
     /// one entry more than there are cells
     pub carried: Vec<i64>,
+    /// a sheet does not hold them
+    pub outlets: Vec<Outlet>,
     /// mm
     pub cell_length: u64,
     /// left, right
@@ -37,7 +39,7 @@ pub struct Record {
 }
 
 impl Record {
-    /// Dry cells of one metre on a flat bed between walls.
+    /// Dry cells of one metre on a flat bed between walls, without outlets.
     pub fn new(cells: usize) -> Record {
         Record {
             bed: vec![0; cells],
@@ -46,6 +48,7 @@ impl Record {
             mass: vec![0; cells],
             base: vec![0; cells],
             carried: vec![0; cells + 1],
+            outlets: vec![],
             cell_length: 1000,
             boundaries: [Boundary::WALL; 2],
             ledger: Ledger::default(),
@@ -54,11 +57,20 @@ impl Record {
 
     /// Opens a sheet. The number of cells in its header only sizes the columns; whether it opens is the library's to say.
     pub fn open(sheet: &[u8]) -> Result<Record, Refusal> {
+        Record::open_with(sheet, vec![])
+    }
+
+    /// Opens a sheet with these outlets, whose totals start at 0.
+    pub fn open_with(sheet: &[u8], outlets: Vec<Outlet>) -> Result<Record, Refusal> {
         let cells = layout::u32_at(sheet, layout::CELLS_AT).unwrap_or(0);
         // a greater number is refused whatever the columns, so it need not be believed
         let cells = (cells as usize).min(CELLS_MOST);
-        let mut record = Record::new(cells);
-        let reach = Reach::open(sheet, columns(&mut record))?;
+        let mut record = Record {
+            outlets,
+            ..Record::new(cells)
+        };
+        let (columns, outlets) = lent(&mut record);
+        let reach = Reach::open(sheet, columns, outlets)?;
         let (cell_length, boundaries, ledger) = (reach.cell_length, reach.boundaries, reach.ledger);
         (record.cell_length, record.boundaries, record.ledger) = (cell_length, boundaries, ledger);
         Ok(record)
@@ -68,11 +80,13 @@ impl Record {
         self.bed.len()
     }
 
-    /// Lends the columns to the library's calls, and keeps the boundaries and the ledger that they leave.
+    /// Lends columns and outlets to the library's calls, and keeps the boundaries and the ledger that they leave.
     pub fn with<T>(&mut self, f: impl FnOnce(&mut Reach<'_>) -> T) -> T {
         let (cell_length, boundaries, ledger) = (self.cell_length, self.boundaries, self.ledger);
+        let (columns, outlets) = lent(self);
         let mut reach = Reach {
-            columns: columns(self),
+            columns,
+            outlets,
             cell_length,
             boundaries,
             ledger,
@@ -120,15 +134,16 @@ impl Record {
     }
 }
 
-fn columns(record: &mut Record) -> Columns<'_> {
-    Columns {
+fn lent(record: &mut Record) -> (Columns<'_>, &mut [Outlet]) {
+    let columns = Columns {
         bed: &mut record.bed,
         depth: &mut record.depth,
         discharge: &mut record.discharge,
         mass: &mut record.mass,
         base: &mut record.base,
         carried: &mut record.carried,
-    }
+    };
+    (columns, &mut record.outlets)
 }
 
 fn put_boundary(sheet: &mut Vec<u8>, boundary: &Boundary) {

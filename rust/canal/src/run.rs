@@ -55,19 +55,25 @@ pub fn run(
     })
 }
 
-/// The cell that would be deepest after a step of `step` ms, which was refused. A depth changes in proportion to the time, so a shorter step
-/// that is accepted tells it; None if even 1 ms is refused.
+/// The cell that would be deepest after a step of `step` ms, which was refused. What crosses its interfaces grows in proportion to the time, and
+/// what its outlets draw does not, so a shorter step that is accepted tells it; None if even 1 ms is refused.
 pub fn fills_most(record: &Record, step: u64) -> Option<usize> {
     let mut shorter = successors(Some(step / 2), |t| Some(t / 2)).take_while(|&t| t > 0);
     let (t, after) = shorter.find_map(|t| {
         let mut tried = record.clone();
         tried.with(|reach| reach.step(t)).ok()?;
-        Some((t, tried.depth))
+        Some((t, tried))
     })?;
+    let drawn = |i: usize| -> i128 {
+        let outlets = after.outlets.iter().zip(&record.outlets);
+        let here = outlets.filter(|(o, _)| o.cell == i as u64);
+        here.map(|(o, old)| i128::from(o.water - old.water)).sum()
+    };
     // t times the depth after the whole step
     let depth = |&i: &usize| {
-        let (before, after) = (i128::from(record.depth[i]), i128::from(after[i]));
-        before * i128::from(t) + (after - before) * i128::from(step)
+        let (before, after) = (i128::from(record.depth[i]), i128::from(after.depth[i]));
+        let crossed = after - before + drawn(i);
+        (before - drawn(i)) * i128::from(t) + crossed * i128::from(step)
     };
     (0..record.cells()).min_by_key(|i| Reverse(depth(i)))
 }

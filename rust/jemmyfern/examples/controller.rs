@@ -1,10 +1,11 @@
 //! A controller's loop: opens a sheet, follows an hour of canal time with the greatest steps, changes the dose at the head twice, prints what
 //! passed the boundaries, writes the sheet and opens it again. What it prints keeps the paper's words: a settling is a transport, nutrient is
-//! mass.
+//! mass. With WANT two outlets, a third and two thirds down the reach, each want so many micrometres per step until the second dose, when the
+//! first of them is closed.
 //!
-//!     controller IN.sheet OUT.sheet
+//!     controller IN.sheet OUT.sheet [WANT]
 
-use jemmyfern::{cells_in, sheet_size, Boundary, Columns, Reach, Totals, CELLS_MOST};
+use jemmyfern::{cells_in, sheet_size, Boundary, Columns, Outlet, Reach, Totals, CELLS_MOST};
 use std::error::Error;
 use std::fmt;
 use std::process::ExitCode;
@@ -85,6 +86,9 @@ fn follow(reach: &mut Reach) -> Result<(u64, u64), Box<dyn Error>> {
         if let Some((_, dose)) = doses.next_if(|(from, _)| elapsed >= *from) {
             reach.set_boundaries(with_dose(reach.boundaries, *dose))?;
             transports += 1;
+            if doses.peek().is_none() && !reach.outlets().is_empty() {
+                reach.set_want(0, 0);
+            }
         }
         let t = reach.greatest_step()?.time.min(HOUR_MS - elapsed);
         transports += u64::from(reach.step(t)?.transported);
@@ -103,21 +107,33 @@ fn same_record(a: &Reach, b: &Reach) -> bool {
         && (&*c.mass, &*c.base, &*c.carried) == (&*d.mass, &*d.base, &*d.carried)
 }
 
-fn run(from: &str, to: &str) -> Result<(), Box<dyn Error>> {
+/// Two outlets along n cells, or none.
+fn outlets(n: u64, want: Option<u64>) -> Vec<Outlet> {
+    let cells = [n / 3, 2 * n / 3];
+    want.map_or(vec![], |want| {
+        cells.map(|cell| Outlet::new(cell, want)).into()
+    })
+}
+
+fn run(from: &str, to: &str, want: Option<u64>) -> Result<(), Box<dyn Error>> {
     let sheet = std::fs::read(from).map_err(|error| NoFile(format!("{from}: {error}")))?;
-    let mut memory = Memory::new();
-    let mut reach = Reach::open(&sheet, memory.lend(cells_in(&sheet)))?;
+    let n = cells_in(&sheet);
+    let (mut memory, mut outlets) = (Memory::new(), outlets(n as u64, want));
+    let mut reach = Reach::open(&sheet, memory.lend(n), &mut outlets)?;
     println!("cells {} of {} mm", reach.cells(), reach.cell_length);
     let (steps, transports) = follow(&mut reach)?;
     println!("steps {steps} settlings {transports}");
     print_totals("left", &reach.ledger.left);
     print_totals("right", &reach.ledger.right);
+    for o in reach.outlets() {
+        println!("outlet at {} water {} nutrient {}", o.cell, o.water, o.mass);
+    }
     let mut out = [0; sheet_size(CELLS_MOST)];
     let length = reach.write(&mut out)?;
     let written = &out[..length];
     std::fs::write(to, written).map_err(|error| NoFile(format!("{to}: {error}")))?;
     let mut again = Memory::new();
-    let opened = Reach::open(written, again.lend(cells_in(written)))?;
+    let opened = Reach::open(written, again.lend(cells_in(written)), &mut [])?;
     if !same_record(&reach, &opened) {
         return Err("the sheet opens as another record".into());
     }
@@ -126,12 +142,17 @@ fn run(from: &str, to: &str) -> Result<(), Box<dyn Error>> {
 }
 
 fn main() -> ExitCode {
-    let files: Vec<String> = std::env::args().skip(1).collect();
-    let [from, to] = &files[..] else {
-        eprintln!("usage: controller IN.sheet OUT.sheet");
+    let arguments: Vec<String> = std::env::args().skip(1).collect();
+    let parsed = match &arguments[..] {
+        [from, to] => Some((from, to, None)),
+        [from, to, want] => want.parse().ok().map(|want| (from, to, Some(want))),
+        _ => None,
+    };
+    let Some((from, to, want)) = parsed else {
+        eprintln!("usage: controller IN.sheet OUT.sheet [WANT]");
         return ExitCode::from(2);
     };
-    match run(from, to) {
+    match run(from, to, want) {
         Ok(()) => ExitCode::SUCCESS,
         Err(error) => {
             eprintln!("{error}");

@@ -1,15 +1,18 @@
-/* Every call of include/jemmyfern.h, and the layout of every type, printed. The test beside it prints the same through Rust's declarations. */
+/* Every call of include/jemmyfern.h, and the layout of every type, printed. The test beside it prints the same through Rust's declarations. The
+ * calls are made without outlets, with three, and with three of which the last is not in the reach. */
 #include "jemmyfern.h"
 
 #include <inttypes.h>
 #include <stdio.h>
+#include <string.h>
 
 #define CELLS JEMMYFERN_CELLS_MOST
 #define LAYOUT(type, field) printf(#type " " #field " %zu\n", offsetof(jemmyfern_##type, field))
 #define SIZE(type) printf(#type " %zu %zu\n", sizeof(jemmyfern_##type), _Alignof(jemmyfern_##type))
-#define COLUMNS bed, n, depth, n, discharge, n, mass, n, base, n, carried, n + 1
+#define COLUMNS bed, n, depth, n, discharge, n, mass, n, base, n, carried, n + 1, outlets, count
 
-static size_t n;
+static size_t n, count;
+static jemmyfern_outlet *outlets, list[3];
 static int64_t bed[CELLS], discharge[CELLS], carried[CELLS + 1];
 static uint64_t depth[CELLS], mass[CELLS], base[CELLS];
 static uint8_t sheet[JEMMYFERN_SHEET_SIZE(CELLS)], out[JEMMYFERN_SHEET_SIZE(CELLS) + 10];
@@ -31,6 +34,12 @@ static void layouts(void)
     SIZE(ledger);
     LAYOUT(ledger, left);
     LAYOUT(ledger, right);
+    SIZE(outlet);
+    LAYOUT(outlet, cell);
+    LAYOUT(outlet, want);
+    LAYOUT(outlet, drawn);
+    LAYOUT(outlet, water);
+    LAYOUT(outlet, mass);
     SIZE(answer);
     LAYOUT(answer, refusal);
     LAYOUT(answer, boundaries);
@@ -73,23 +82,16 @@ static void print_answer(const char *call, uint32_t refusal, const jemmyfern_bou
         printf(" %" PRId64 " %" PRIu64 " %" PRId64 " %" PRIu64 " %" PRIu64 " %" PRId64, bed[i], depth[i], discharge[i], mass[i], base[i],
                carried[i]);
     printf(" %" PRId64, carried[n]);
+    for (size_t i = 0; i < count; i++)
+        printf(" %" PRIu64 " %" PRIu64 " %" PRIu64 " %" PRIu64 " %" PRIu64, list[i].cell, list[i].want, list[i].drawn, list[i].water,
+               list[i].mass);
     for (size_t i = 0; i < JEMMYFERN_SHEET_SIZE(n) + 10; i++)
         printf(" %u", out[i]);
     printf("\n");
 }
 
-int main(int argc, char **argv)
+static void calls(size_t length)
 {
-    layouts();
-    if (argc != 2)
-        return 2;
-    FILE *in = fopen(argv[1], "rb");
-    if (in == NULL)
-        return 3;
-    size_t length = fread(sheet, 1, sizeof sheet, in);
-    fclose(in);
-    n = jemmyfern_cells(sheet, length);
-
     jemmyfern_opened o = jemmyfern_open(sheet, length, COLUMNS);
     print_answer("open", o.refusal, &o.boundaries, &o.ledger, o.cell_length, 0);
     uint64_t x = o.cell_length;
@@ -100,6 +102,8 @@ int main(int argc, char **argv)
     print_answer("greatest", g.refusal, &g.boundaries, &g.ledger, g.time, g.place);
     const uint64_t times[] = {g.time, 0, g.time, g.time + 1, 1001};
     for (size_t i = 0; i < sizeof times / sizeof *times; i++) {
+        if (count > 0)
+            outlets[0].want += 1000;
         jemmyfern_stepped s = jemmyfern_step(COLUMNS, x, held, ledger, times[i]);
         print_answer("step", s.refusal, &s.boundaries, &s.ledger, s.transported, 0);
         ledger = s.ledger;
@@ -121,5 +125,32 @@ int main(int argc, char **argv)
     print_answer("write", a.refusal, &a.boundaries, &a.ledger, 0, 0);
     a = jemmyfern_write(COLUMNS, x, held, ledger, out, JEMMYFERN_SHEET_SIZE(n) + 10);
     print_answer("write", a.refusal, &a.boundaries, &a.ledger, 0, 0);
+}
+
+/* Nothing is left of earlier calls; drawn water and totals are what no opening would leave. */
+static void lend(size_t entries, uint64_t last)
+{
+    memset(bed, 0, sizeof bed), memset(depth, 0, sizeof depth), memset(discharge, 0, sizeof discharge);
+    memset(mass, 0, sizeof mass), memset(base, 0, sizeof base), memset(carried, 0, sizeof carried), memset(out, 0, sizeof out);
+    const jemmyfern_outlet lent[] = {{0, 700, 1, 2, 3}, {n / 2, 4000000, 4, 5, 6}, {last, 3000, 7, 8, 9}};
+    memcpy(list, lent, sizeof list);
+    outlets = entries > 0 ? list : NULL;
+    count = entries;
+}
+
+int main(int argc, char **argv)
+{
+    layouts();
+    if (argc != 2)
+        return 2;
+    FILE *in = fopen(argv[1], "rb");
+    if (in == NULL)
+        return 3;
+    size_t length = fread(sheet, 1, sizeof sheet, in);
+    fclose(in);
+    n = jemmyfern_cells(sheet, length);
+    lend(0, 0), calls(length);
+    lend(3, 0), calls(length);
+    lend(3, n), calls(length);
     return 0;
 }

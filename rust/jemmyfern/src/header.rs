@@ -4,7 +4,7 @@
 mod cc;
 
 use crate::raw::{self, Answer, Boundaries, Greatest, Opened, Stepped};
-use crate::{cells_in, sheet_size, Boundary, Ledger, Totals};
+use crate::{cells_in, sheet_size, Boundary, Ledger, Outlet, Totals};
 use std::fmt::Write;
 use std::mem::{align_of, offset_of, size_of};
 use std::process::Command;
@@ -31,6 +31,7 @@ fn layouts() -> String {
     layout!(text, "boundaries", Boundaries);
     layout!(text, "totals", Totals, water_in, water_out, mass_in, mass_out);
     layout!(text, "ledger", Ledger, left, right);
+    layout!(text, "outlet", Outlet, cell, want, drawn, water, mass);
     layout!(text, "answer", Answer, refusal, boundaries, ledger);
     layout!(
         text,
@@ -62,6 +63,7 @@ struct Record {
     mass: Vec<u64>,
     base: Vec<u64>,
     carried: Vec<i64>,
+    outlets: Vec<Outlet>,
     out: Vec<u8>,
     text: String,
 }
@@ -73,7 +75,8 @@ macro_rules! call {
             raw::$function(
                 $r.bed.as_mut_ptr(), $r.bed.len(), $r.depth.as_mut_ptr(), $r.depth.len(),
                 $r.discharge.as_mut_ptr(), $r.discharge.len(), $r.mass.as_mut_ptr(), $r.mass.len(),
-                $r.base.as_mut_ptr(), $r.base.len(), $r.carried.as_mut_ptr(), $r.carried.len()
+                $r.base.as_mut_ptr(), $r.base.len(), $r.carried.as_mut_ptr(), $r.carried.len(),
+                $r.outlets.as_mut_ptr(), $r.outlets.len()
                 $(, $more)*
             )
         }
@@ -81,7 +84,7 @@ macro_rules! call {
 }
 
 impl Record {
-    fn new(n: usize) -> Record {
+    fn new(n: usize, outlets: &[Outlet]) -> Record {
         Record {
             bed: vec![0; n],
             depth: vec![0; n],
@@ -89,6 +92,7 @@ impl Record {
             mass: vec![0; n],
             base: vec![0; n],
             carried: vec![0; n + 1],
+            outlets: outlets.to_vec(),
             out: vec![0; sheet_size(n) + 10],
             text: String::new(),
         }
@@ -133,6 +137,14 @@ impl Record {
             write!(t, " {} {} {}", self.mass[i], self.base[i], self.carried[i]).unwrap();
         }
         write!(t, " {}", self.carried[self.bed.len()]).unwrap();
+        for o in &self.outlets {
+            write!(
+                t,
+                " {} {} {} {} {}",
+                o.cell, o.want, o.drawn, o.water, o.mass
+            )
+            .unwrap();
+        }
         for byte in &self.out {
             write!(t, " {byte}").unwrap();
         }
@@ -158,10 +170,10 @@ impl Record {
     }
 }
 
-/// The calls of header.c, in its order.
-fn calls(sheet: &[u8]) -> String {
+/// The calls of header.c, in its order, with these outlets.
+fn calls(sheet: &[u8], outlets: &[Outlet]) -> String {
     let n = cells_in(sheet);
-    let mut r = Record::new(n);
+    let mut r = Record::new(n, outlets);
     let o = unsafe {
         raw::jemmyfern_open(
             sheet.as_ptr(),
@@ -178,6 +190,8 @@ fn calls(sheet: &[u8]) -> String {
             n,
             r.carried.as_mut_ptr(),
             n + 1,
+            r.outlets.as_mut_ptr(),
+            r.outlets.len(),
         )
     };
     r.print(
@@ -203,6 +217,9 @@ fn calls(sheet: &[u8]) -> String {
         [g.time, g.place as u64],
     );
     for t in [g.time, 0, g.time, g.time + 1, 1_001] {
+        if let Some(first) = r.outlets.first_mut() {
+            first.want += 1_000;
+        }
         ledger = r.step(x, held, ledger, t);
     }
     r.write(x, held, ledger, sheet_size(n));
@@ -218,6 +235,22 @@ fn calls(sheet: &[u8]) -> String {
     r.write(x, held, a.ledger, sheet_size(n) - 1);
     r.write(x, held, a.ledger, sheet_size(n) + 10);
     r.text
+}
+
+/// The lists that header.c lends: none, three outlets, and three of which the last is not in the reach.
+fn lists(n: usize) -> [Vec<Outlet>; 3] {
+    let lent = |last: u64| {
+        [(0, 700, 1), (n as u64 / 2, 4_000_000, 4), (last, 3_000, 7)].map(|(cell, want, drawn)| {
+            let (water, mass) = (drawn + 1, drawn + 2);
+            Outlet {
+                drawn,
+                water,
+                mass,
+                ..Outlet::new(cell, want)
+            }
+        })
+    };
+    [vec![], lent(0).to_vec(), lent(n as u64).to_vec()]
 }
 
 /// Sheets that open, two of them with a fed and an open boundary, and sheets that do not.
@@ -247,17 +280,20 @@ fn sheets() -> Vec<Vec<u8>> {
 fn the_header_and_the_declarations_agree() {
     let folder = cc::folder("header");
     let program = cc::compiled("rust/jemmyfern/src/header.c", "c11", &folder);
-    let mut opened = 0;
+    let (mut opened, mut drawn, mut not_in_reach) = (0, 0, 0);
     for sheet in sheets() {
         let file = folder.join("a.sheet");
         std::fs::write(&file, &sheet).unwrap();
         let output = Command::new(&program).arg(&file).output().unwrap();
         assert!(output.status.success());
         let text = String::from_utf8(output.stdout).unwrap();
-        let expected = layouts() + &calls(&sheet);
-        assert_eq!(text, expected);
-        opened += usize::from(expected.contains("\nopen 0 "));
+        let [none, three, wrong] = lists(cells_in(&sheet)).map(|list| calls(&sheet, &list));
+        assert_eq!(text, layouts() + &none + &three + &wrong);
+        opened += usize::from(none.starts_with("open 0 "));
+        drawn += usize::from(three.starts_with("open 0 ") && three != none);
+        not_in_reach += usize::from(wrong.starts_with("open 16 "));
     }
     assert!(opened >= 2, "{opened}");
+    assert_eq!((drawn, not_in_reach), (opened, opened));
     std::fs::remove_dir_all(&folder).unwrap();
 }

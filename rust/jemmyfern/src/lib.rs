@@ -1,4 +1,5 @@
-//! A reach of an irrigation canal in whole units: depth, discharge and mass along its cells, and a ledger of what passed its two boundaries.
+//! A reach of an irrigation canal in whole units: depth, discharge and mass along its cells, a ledger of what passed its two boundaries, and
+//! outlets that draw water from its cells.
 //!
 //! The calls are proved (see the repository's README for what that covers); this crate lends them the caller's slices and turns the paper's
 //! numbers of refusal into an enum. Nothing is allocated, and no standard library is needed. The words are those of the field; where the paper
@@ -8,7 +9,7 @@
 //! concentration in micrograms per litre, mass in grains (one micrometre of depth at concentration 1).
 //!
 //! ```no_run
-//! use jemmyfern::{Columns, Reach};
+//! use jemmyfern::{Columns, Outlet, Reach};
 //! # fn main() -> Result<(), Box<dyn std::error::Error>> {
 //! let sheet = std::fs::read("reach.sheet")?;
 //! let (mut bed, mut depth, mut discharge) = ([0; 40], [0; 40], [0; 40]);
@@ -21,10 +22,13 @@
 //!     base: &mut base,
 //!     carried: &mut carried,
 //! };
-//! let mut reach = Reach::open(&sheet, columns)?; // a sheet of 40 cells
+//! let mut outlets = [Outlet::new(20, 500)]; // 500 micrometres per step from the cell in the middle
+//! let mut reach = Reach::open(&sheet, columns, &mut outlets)?; // a sheet of 40 cells
 //! let t = reach.greatest_step()?.time;
 //! reach.step(t)?;
-//! println!("{:?}", reach.ledger);
+//! reach.set_want(0, 0); // it is closed again
+//! reach.transport()?;
+//! println!("{:?} {:?}", reach.ledger, reach.outlets());
 //! # Ok(())
 //! # }
 //! ```
@@ -59,7 +63,13 @@ pub const CELL_LENGTH_MOST: u64 = 100_000;
 /// The greatest time step, ms.
 pub const TIME_STEP_MOST: u64 = 1_000;
 
-/// The greatest total of a ledger.
+/// The greatest number of outlets.
+pub const OUTLETS_MOST: usize = 32;
+
+/// The greatest depth that an outlet wants per step, micrometres.
+pub const WANT_MOST: u64 = 4_000_000;
+
+/// The greatest total of a ledger or an outlet.
 pub const TOTAL_MOST: u64 = 1_000_000_000_000_000_000;
 
 /// Bytes of the sheet of `cells` cells.
@@ -144,7 +154,40 @@ pub struct Ledger {
     pub right: Totals,
 }
 
+/// An outlet: draws water from one cell. Several may draw from the same cell.
+///
+/// What a cell can give in a step is its depth before the step less what the step sends out of it to either side. Where the wants of its outlets
+/// fit into that, each has its want; where not, they share it in proportion, the units left going singly in list order.
+#[repr(C)]
+#[derive(Clone, Copy, Debug, PartialEq, Eq, Default)]
+pub struct Outlet {
+    /// counted from 0
+    pub cell: u64,
+    /// the depth that it wants per step, 0..4,000,000 micrometres; the one field that the caller may change between calls
+    pub want: u64,
+    /// what it drew since the last transport, micrometres
+    pub drawn: u64,
+    /// what it drew since the opening, micrometres of depth of a cell: grows with each step
+    pub water: u64,
+    /// the mass that went with it since the opening, the paper's 'nutrient', grains: grows with each transport, also one that a step makes
+    pub mass: u64,
+}
+
+impl Outlet {
+    /// An outlet to lend to an opening: it has drawn nothing yet.
+    pub const fn new(cell: u64, want: u64) -> Outlet {
+        Outlet {
+            cell,
+            want,
+            drawn: 0,
+            water: 0,
+            mass: 0,
+        }
+    }
+}
+
 /// Why a call was refused: the first of the paper's grounds, in its order, that the call does not stand. A refused call has changed nothing.
+/// The order is that of the numbers, but 16 comes after 7.
 #[derive(Clone, Copy, Debug, PartialEq, Eq, PartialOrd, Ord, Hash)]
 #[repr(u32)]
 pub enum Refusal {
@@ -162,9 +205,9 @@ pub enum Refusal {
     Boundaries = 6,
     /// A cell value is out of range.
     Values = 7,
-    /// The carried water breaks its rules.
+    /// The carried or drawn water breaks its rules.
     Carried = 8,
-    /// A total of the ledger exceeds 10^18.
+    /// A total of the ledger or of an outlet exceeds 10^18.
     Ledger = 9,
     /// The time step is outside 1..1,000 ms.
     TimeStep = 10,
@@ -172,16 +215,18 @@ pub enum Refusal {
     Cfl = 11,
     /// A new depth would exceed 4,000,000 micrometres.
     Depth = 12,
-    /// A total would pass 10^18 by this call.
+    /// A total of the ledger or of an outlet would pass 10^18 by this call.
     Total = 13,
-    /// Writing: some carried water is not 0; transport first.
+    /// Writing: some carried or drawn water is not 0; transport first.
     NotTransported = 14,
     /// The output is shorter than the sheet.
     ShortOutput = 15,
+    /// There are over 32 outlets, an outlet's cell is not in the reach, or its want is above 4,000,000. Comes after 7.
+    Outlets = 16,
 }
 
 impl Refusal {
-    pub const ALL: [Refusal; 15] = [
+    pub const ALL: [Refusal; 16] = [
         Refusal::Edition,
         Refusal::Size,
         Refusal::Layout,
@@ -197,6 +242,7 @@ impl Refusal {
         Refusal::Total,
         Refusal::NotTransported,
         Refusal::ShortOutput,
+        Refusal::Outlets,
     ];
 
     /// The paper's number.
@@ -214,14 +260,15 @@ impl Refusal {
             Refusal::CellLength => "the cell length is outside 100..100000 mm",
             Refusal::Boundaries => "a boundary breaks the rules of its kind",
             Refusal::Values => "a cell value is out of range",
-            Refusal::Carried => "the carried water breaks its rules",
-            Refusal::Ledger => "a total of the ledger exceeds 10^18",
+            Refusal::Carried => "the carried or drawn water breaks its rules",
+            Refusal::Ledger => "a total of the ledger or of an outlet exceeds 10^18",
             Refusal::TimeStep => "the time step is outside 1..1000 ms",
             Refusal::Cfl => "the time step is too long for the fastest water (CFL)",
             Refusal::Depth => "a depth would exceed 4000000 micrometres",
-            Refusal::Total => "a total of the ledger would pass 10^18 by this call",
-            Refusal::NotTransported => "some carried water is not 0; transport before writing",
+            Refusal::Total => "a total of the ledger or of an outlet would pass 10^18 by this call",
+            Refusal::NotTransported => "some carried or drawn water is not 0; transport before writing",
             Refusal::ShortOutput => "the output is shorter than the sheet",
+            Refusal::Outlets => "there are over 32 outlets, or an outlet's cell is not in the reach, or its want is above 4000000",
         }
     }
 
@@ -272,10 +319,13 @@ pub struct Greatest {
     pub place: usize,
 }
 
-/// An open reach: the lent columns, and what travels with them from call to call. A sheet holds no ledger: each opening starts all totals at 0.
+/// An open reach: the lent columns and outlets, and what travels with them from call to call. A sheet holds no ledger and no outlets: each opening
+/// starts all totals at 0.
 #[derive(Debug)]
 pub struct Reach<'a> {
     pub columns: Columns<'a>,
+    /// at most 32; between calls only a `want` may be changed, see [`Reach::set_want`]
+    pub outlets: &'a mut [Outlet],
     /// mm
     pub cell_length: u64,
     /// left, right
@@ -283,7 +333,7 @@ pub struct Reach<'a> {
     pub ledger: Ledger,
 }
 
-/// The library's numbers are 0 to 15, and that is proved.
+/// The library's numbers are 0 to 16, and that is proved.
 fn refused(number: u32) -> Result<(), Refusal> {
     match number {
         0 => Ok(()),
@@ -291,12 +341,12 @@ fn refused(number: u32) -> Result<(), Refusal> {
     }
 }
 
-/// Calls a C function with the record: `$water` and `$slice` say how depth and discharge, and how the other three columns are lent.
+/// Calls a C function with the record: `$water` and `$slice` say how depth and discharge, and how the other three columns and the outlets are lent.
 macro_rules! call {
     ($function:ident, $reach:expr, $water:ident, $slice:ident $(, $more:expr)*) => {{
-        let Reach { columns: c, cell_length, boundaries, ledger } = $reach;
+        let Reach { columns: c, outlets, cell_length, boundaries, ledger } = $reach;
         // SAFETY: each pointer comes with the length of its slice (of an empty one it is aligned and not read); no two overlap, since the
-        // columns and the output are lent exclusively
+        // columns, the outlets and the output are lent exclusively
         unsafe {
             raw::$function(
                 c.bed.as_ptr(), c.bed.len(),
@@ -305,6 +355,7 @@ macro_rules! call {
                 c.mass.$slice(), c.mass.len(),
                 c.base.$slice(), c.base.len(),
                 c.carried.$slice(), c.carried.len(),
+                outlets.$slice(), outlets.len(),
                 *cell_length, raw::Boundaries { boundaries: *boundaries }, *ledger $(, $more)*
             )
         }
@@ -312,8 +363,13 @@ macro_rules! call {
 }
 
 impl<'a> Reach<'a> {
-    /// Opens a sheet into the lent columns, which must have the lengths of its cells. A refused opening leaves the columns as they came.
-    pub fn open(sheet: &[u8], columns: Columns<'a>) -> Result<Reach<'a>, Refusal> {
+    /// Opens a sheet into the lent columns, which must have the lengths of its cells, with these outlets; without any it is lent `&mut []`. Cell
+    /// and want of an outlet stay, what it has drawn and its totals become 0. A refused opening leaves columns and outlets as they came.
+    pub fn open(
+        sheet: &[u8],
+        columns: Columns<'a>,
+        outlets: &'a mut [Outlet],
+    ) -> Result<Reach<'a>, Refusal> {
         let c = columns;
         // SAFETY: as in `call`
         let o = unsafe {
@@ -332,11 +388,14 @@ impl<'a> Reach<'a> {
                 c.base.len(),
                 c.carried.as_mut_ptr(),
                 c.carried.len(),
+                outlets.as_mut_ptr(),
+                outlets.len(),
             )
         };
         refused(o.refusal)?;
         Ok(Reach {
             columns: c,
+            outlets,
             cell_length: o.cell_length,
             boundaries: o.boundaries,
             ledger: o.ledger,
@@ -348,7 +407,17 @@ impl<'a> Reach<'a> {
         self.columns.bed.len()
     }
 
-    /// One water step of `t` ms, with a transport before it where the paper's test asks for one.
+    /// The outlets, with what they drew.
+    pub fn outlets(&self) -> &[Outlet] {
+        self.outlets
+    }
+
+    /// Changes what an outlet wants per step, from the next call on; that call looks whether it is in range. Panics where there is no such outlet.
+    pub fn set_want(&mut self, outlet: usize, want: u64) {
+        self.outlets[outlet].want = want;
+    }
+
+    /// One water step of `t` ms, in which outlets draw, with a transport before it where the paper's test asks for one.
     pub fn step(&mut self, t: u64) -> Result<Stepped, Refusal> {
         let a = call!(jemmyfern_step, &mut *self, as_mut_ptr, as_mut_ptr, t);
         refused(a.refusal)?;
@@ -358,7 +427,7 @@ impl<'a> Reach<'a> {
         })
     }
 
-    /// A transport, the paper's 'settling': moves the mass with the water carried since the last one.
+    /// A transport, the paper's 'settling': moves the mass with the water carried and drawn since the last one.
     pub fn transport(&mut self) -> Result<(), Refusal> {
         let a = call!(jemmyfern_transport, &mut *self, as_ptr, as_mut_ptr);
         self.take(a)

@@ -1,6 +1,6 @@
 //! The C interface, as include/jemmyfern.h declares it. A slice goes over as a pointer and a length.
 
-use crate::{Boundary, Ledger};
+use crate::{Boundary, Ledger, Outlet};
 
 #[repr(C)]
 #[derive(Clone, Copy)]
@@ -56,6 +56,8 @@ extern "C" {
         base_length: usize,
         carried: *mut i64,
         carried_length: usize,
+        outlets: *mut Outlet,
+        outlets_length: usize,
     ) -> Opened;
     pub fn jemmyfern_step(
         bed: *const i64,
@@ -70,6 +72,8 @@ extern "C" {
         base_length: usize,
         carried: *mut i64,
         carried_length: usize,
+        outlets: *mut Outlet,
+        outlets_length: usize,
         cell_length: u64,
         boundaries: Boundaries,
         ledger: Ledger,
@@ -88,6 +92,8 @@ extern "C" {
         base_length: usize,
         carried: *mut i64,
         carried_length: usize,
+        outlets: *mut Outlet,
+        outlets_length: usize,
         cell_length: u64,
         boundaries: Boundaries,
         ledger: Ledger,
@@ -105,6 +111,8 @@ extern "C" {
         base_length: usize,
         carried: *mut i64,
         carried_length: usize,
+        outlets: *mut Outlet,
+        outlets_length: usize,
         cell_length: u64,
         boundaries: Boundaries,
         ledger: Ledger,
@@ -123,6 +131,8 @@ extern "C" {
         base_length: usize,
         carried: *const i64,
         carried_length: usize,
+        outlets: *const Outlet,
+        outlets_length: usize,
         cell_length: u64,
         boundaries: Boundaries,
         ledger: Ledger,
@@ -140,6 +150,8 @@ extern "C" {
         base_length: usize,
         carried: *const i64,
         carried_length: usize,
+        outlets: *const Outlet,
+        outlets_length: usize,
         cell_length: u64,
         boundaries: Boundaries,
         ledger: Ledger,

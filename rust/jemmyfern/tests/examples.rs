@@ -3,6 +3,7 @@
 mod cc;
 
 use reference::record::{Columns, End};
+use reference::Outlet;
 use std::fmt::Write;
 use std::path::PathBuf;
 use std::process::Command;
@@ -10,9 +11,14 @@ use std::process::Command;
 const HOUR_MS: u64 = 3_600_000;
 
 /// The hour of examples/controller.c on the second implementation, which has the paper's words: the text and the sheet.
-fn expected(sheet: &[u8], cells: usize) -> (String, Vec<u8>) {
+fn expected(sheet: &[u8], cells: usize, want: Option<u64>) -> (String, Vec<u8>) {
     let mut c = Columns::of_cells(cells);
-    let opened = reference::open(sheet, &mut c);
+    let mut outlets = want.map_or(vec![], |want| {
+        [cells / 3, 2 * cells / 3]
+            .map(|i| Outlet::new(i as u64, want))
+            .into()
+    });
+    let opened = reference::open(sheet, &mut c, &mut outlets);
     assert_eq!(opened.refusal, 0);
     let (x, mut boundaries, mut ledger) = (opened.x, opened.ends, opened.book);
     let mut doses = [(HOUR_MS / 3, 40_000), (HOUR_MS / 3 * 2, 500)].iter();
@@ -26,27 +32,30 @@ fn expected(sheet: &[u8], cells: usize) -> (String, Vec<u8>) {
                 ..boundaries[0]
             };
             let new = [head, boundaries[1]];
-            let a = reference::set_ends(&mut c, x, boundaries, ledger, new);
+            let a = reference::set_ends(&mut c, &mut outlets, x, boundaries, ledger, new);
             assert_eq!(a.refusal, 0);
             (boundaries, ledger) = (a.ends, a.book);
             transports += 1;
             dose = doses.next();
+            if let (None, Some(first)) = (dose, outlets.first_mut()) {
+                first.want = 0;
+            }
         }
-        let most = reference::greatest_step(&c, x, boundaries, ledger).t;
+        let most = reference::greatest_step(&c, &outlets, x, boundaries, ledger).t;
         let t = most.min(HOUR_MS - elapsed);
-        let a = reference::step(&mut c, x, boundaries, ledger, t);
+        let a = reference::step(&mut c, &mut outlets, x, boundaries, ledger, t);
         assert_eq!(a.refusal, 0);
         ledger = a.book;
         transports += u32::from(a.settled);
         elapsed += t;
         steps += 1;
     }
-    let a = reference::settle(&mut c, x, boundaries, ledger);
+    let a = reference::settle(&mut c, &mut outlets, x, boundaries, ledger);
     assert_eq!(a.refusal, 0);
     ledger = a.book;
     let mut out = vec![0; reference::sheet::sheet_length(cells)];
     assert_eq!(
-        reference::write(&c, x, boundaries, ledger, &mut out).refusal,
+        reference::write(&c, &outlets, x, boundaries, ledger, &mut out).refusal,
         0
     );
     let mut text = format!(
@@ -60,6 +69,16 @@ fn expected(sheet: &[u8], cells: usize) -> (String, Vec<u8>) {
             t.water_in, t.water_out, t.nutrient_in, t.nutrient_out
         )
         .unwrap();
+    }
+    for o in &outlets {
+        let Outlet {
+            cell,
+            water,
+            nutrient,
+            ..
+        } = o;
+        writeln!(text, "outlet at {cell} water {water} nutrient {nutrient}").unwrap();
+        assert!(*water > 0 && *nutrient > 0, "{o:?}");
     }
     writeln!(text, "written and opened again: {} bytes", out.len()).unwrap();
     (text, out)
@@ -75,18 +94,29 @@ fn in_rust() -> PathBuf {
 fn both_controllers_follow_the_hour() {
     let folder = cc::folder("examples");
     let file = cc::kept("examples/reach.sheet");
-    let (text, written) = expected(&std::fs::read(&file).unwrap(), 40);
+    let sheet = std::fs::read(&file).unwrap();
     let in_c = cc::compiled("examples/controller.c", "c11", &folder);
     for program in [in_c, in_rust()] {
         let out = folder.join("out.sheet");
-        let run = Command::new(&program)
-            .arg(&file)
-            .arg(&out)
-            .output()
-            .unwrap();
-        assert!(run.status.success(), "{run:?}");
-        assert_eq!(String::from_utf8(run.stdout).unwrap(), text);
-        assert_eq!(std::fs::read(&out).unwrap(), written);
+        let run = |want: &[&str]| {
+            let mut command = Command::new(&program);
+            command.arg(&file).arg(&out).args(want).output().unwrap()
+        };
+        // without outlets, with modest ones, and with such as take all that their cells can give
+        for want in [None, Some(300), Some(4_000_000)] {
+            let (text, written) = expected(&sheet, 40, want);
+            let want = want.map(|want: u64| want.to_string());
+            let answer = run(want.as_deref().as_slice());
+            assert!(answer.status.success(), "{answer:?}");
+            assert_eq!(String::from_utf8(answer.stdout).unwrap(), text);
+            assert_eq!(std::fs::read(&out).unwrap(), written);
+        }
+        // a want too great, and one that is no number
+        let great = run(&["4000001"]);
+        assert_eq!(great.status.code(), Some(1), "{great:?}");
+        let words = String::from_utf8(great.stderr).unwrap();
+        assert!(words.contains("refused 16"), "{words}");
+        assert_eq!(run(&["much"]).status.code(), Some(2));
         // a sheet that is refused, a file that is not there, no argument
         std::fs::write(folder.join("bad.sheet"), [0; 80]).unwrap();
         let bad = Command::new(&program)

@@ -14,6 +14,7 @@ fn calls_take_little_stack() {
     assert!(run.status.success(), "{run:?}");
     let text = String::from_utf8(run.stdout).unwrap();
     assert_eq!(text.matches("bytes of stack").count(), 6, "{text}");
+    assert_eq!(text.matches("with 32 outlets").count(), 6, "{text}");
 }
 
 /// No symbol of a section that a program may write, by `nm`'s letters.

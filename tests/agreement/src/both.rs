@@ -3,7 +3,7 @@
 use crate::calls;
 use reference::random::{damage_record, totals_mut, Random, Record};
 use reference::record::{Answer, Book, Columns, End, DEEPEST, MOST_TOTAL};
-use reference::{GreatestAnswer, OpenAnswer, StepAnswer};
+use reference::{GreatestAnswer, OpenAnswer, Outlet, StepAnswer};
 
 /// A call on a record with its free arguments.
 #[derive(Clone, Copy, Debug)]
@@ -83,17 +83,18 @@ impl Call {
 
     /// The call on the second implementation.
     pub fn theirs(self, r: &mut Record) -> Outcome {
-        let (c, x, ends, book) = (&mut r.columns, r.x, r.ends, r.book);
+        let (c, outlets) = (&mut r.columns, &mut r.outlets);
+        let (x, ends, book) = (r.x, r.ends, r.book);
         match self {
-            Call::Transport => reference::settle(c, x, ends, book).into(),
-            Call::SetBoundaries(new) => reference::set_ends(c, x, ends, book, new).into(),
-            Call::Greatest => reference::greatest_step(c, x, ends, book).into(),
-            Call::Step(t) => reference::step(c, x, ends, book, t).into(),
+            Call::Transport => reference::settle(c, outlets, x, ends, book).into(),
+            Call::SetBoundaries(new) => reference::set_ends(c, outlets, x, ends, book, new).into(),
+            Call::Greatest => reference::greatest_step(c, outlets, x, ends, book).into(),
+            Call::Step(t) => reference::step(c, outlets, x, ends, book, t).into(),
         }
     }
 }
 
-/// Makes the call on both implementations: the answers and every column are the same, and a refused call leaves the record as
+/// Makes the call on both implementations: the answers, every column and every outlet are the same, and a refused call leaves the record as
 /// it came. The record then holds the boundaries and the ledger handed back.
 pub fn same(call: Call, record: &mut Record) -> Outcome {
     let before = record.clone();
@@ -110,14 +111,21 @@ pub fn same(call: Call, record: &mut Record) -> Outcome {
     answer
 }
 
-/// Opens on both implementations: the answers and every column are the same, and a refused opening gives nothing but its number
-/// and leaves the columns as they came. Gives the opened record, or that number.
+/// Opens on both implementations without outlets, as `same_opening_with`.
 pub fn same_opening(sheet: &[u8], lent: &Columns) -> Result<Record, u32> {
+    same_opening_with(sheet, lent, &[])
+}
+
+/// Opens on both implementations: the answers, every column and every outlet are the same, and a refused opening gives nothing but its number
+/// and leaves columns and outlets as they came. Gives the opened record, or that number.
+pub fn same_opening_with(sheet: &[u8], lent: &Columns, list: &[Outlet]) -> Result<Record, u32> {
     let (mut columns, mut theirs) = (lent.clone(), lent.clone());
-    let answer = calls::open(sheet, &mut columns);
-    let expected = reference::open(sheet, &mut theirs);
-    assert_eq!(answer, expected, "of {sheet:?}");
-    assert_eq!(columns, theirs, "of {sheet:?}");
+    let (mut outlets, mut their_outlets) = (list.to_vec(), list.to_vec());
+    let answer = calls::open(sheet, &mut columns, &mut outlets);
+    let expected = reference::open(sheet, &mut theirs, &mut their_outlets);
+    assert_eq!(answer, expected, "of {sheet:?} with {list:?}");
+    assert_eq!(columns, theirs, "of {sheet:?} with {list:?}");
+    assert_eq!(outlets, their_outlets, "of {sheet:?} with {list:?}");
     let OpenAnswer {
         refusal,
         x,
@@ -126,6 +134,7 @@ pub fn same_opening(sheet: &[u8], lent: &Columns) -> Result<Record, u32> {
     } = answer;
     let opened = Record {
         columns,
+        outlets,
         x,
         ends,
         book,
@@ -135,6 +144,7 @@ pub fn same_opening(sheet: &[u8], lent: &Columns) -> Result<Record, u32> {
     }
     let untouched = Record {
         columns: lent.clone(),
+        outlets: list.to_vec(),
         ..Record::default()
     };
     assert_eq!(opened, untouched, "refused on {refusal}: {sheet:?}");
@@ -148,11 +158,12 @@ pub fn same_writing(record: &Record, came: &[u8]) -> (u32, Vec<u8>) {
     let answer = calls::write(record, &mut out);
     let Record {
         columns,
+        outlets,
         x,
         ends,
         book,
     } = record;
-    let expected = reference::write(columns, *x, *ends, *book, &mut theirs);
+    let expected = reference::write(columns, outlets, *x, *ends, *book, &mut theirs);
     assert_eq!(answer, expected, "{record:?}");
     assert_eq!(out, theirs, "{record:?}");
     assert_eq!((answer.ends, answer.book), (*ends, *book), "{record:?}");
@@ -182,6 +193,7 @@ pub fn fresh(x: u64, boundaries: [End; 2], cells: &[(i64, u64, i64, u64)]) -> Re
     }
     Record {
         columns,
+        outlets: vec![],
         x,
         ends: boundaries,
         book: Book::default(),
@@ -209,19 +221,23 @@ pub fn brim(r: &mut Random, record: &mut Record) {
 pub fn greatest(record: &Record) -> u64 {
     let Record {
         columns,
+        outlets,
         x,
         ends,
         book,
     } = record;
-    reference::greatest_step(columns, *x, *ends, *book).t
+    reference::greatest_step(columns, outlets, *x, *ends, *book).t
 }
 
-/// Every total at its limit: whatever a call adds is ground 13.
+/// Every total of the ledger at its limit: whatever a call adds is ground 13.
 pub fn fill_ledger(record: &mut Record) {
     for total in totals_mut(&mut record.book) {
         *total = MOST_TOTAL;
     }
 }
+
+/// Grounds of a record in checking order: 16 comes after 7.
+pub const GROUNDS: [u32; 7] = [4, 5, 6, 7, 16, 8, 9];
 
 /// A record and the ground that every call on it is refused on.
 pub struct Broken {
@@ -231,10 +247,10 @@ pub struct Broken {
     pub several: bool,
 }
 
-/// The record broken in each way of grounds 4 to 9, and in each way with a later one.
+/// The record broken in each way of grounds 4 to 9 and 16, and in each way with a later one.
 pub fn broken(r: &mut Random, record: &Record) -> Vec<Broken> {
     let mut list = Vec::new();
-    for ground in 4..=9 {
+    for (place, ground) in GROUNDS.into_iter().enumerate() {
         let mut once = record.clone();
         damage_record(r, &mut once, ground);
         list.push(Broken {
@@ -243,12 +259,12 @@ pub fn broken(r: &mut Random, record: &Record) -> Vec<Broken> {
             several: false,
         });
         // the later ground first: the damage that comes second finds what it reads in range
-        let later = 4 + r.below(10) as u32;
+        let later = r.below(10) as usize;
         let mut twice = record.clone();
-        match later {
-            10.. => fill_ledger(&mut twice),
-            later if later > ground => damage_record(r, &mut twice, later),
-            _ => continue,
+        match GROUNDS.get(later) {
+            None => fill_ledger(&mut twice),
+            Some(&other) if later > place => damage_record(r, &mut twice, other),
+            Some(_) => continue,
         }
         damage_record(r, &mut twice, ground);
         list.push(Broken {

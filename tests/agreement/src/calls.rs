@@ -5,7 +5,7 @@
 
 use reference::random::Record;
 use reference::record::{Answer, Book, Columns, End, Totals};
-use reference::{GreatestAnswer, OpenAnswer, StepAnswer, WriteAnswer};
+use reference::{GreatestAnswer, OpenAnswer, Outlet, StepAnswer, WriteAnswer};
 
 #[repr(C)]
 #[derive(Clone, Copy)]
@@ -40,6 +40,16 @@ struct Ledger {
 }
 
 #[repr(C)]
+#[derive(Clone, Copy, Debug, PartialEq)]
+struct RawOutlet {
+    cell: u64,
+    want: u64,
+    drawn: u64,
+    water: u64,
+    mass: u64,
+}
+
+#[repr(C)]
 struct RawAnswer {
     refusal: u32,
     boundaries: [Boundary; 2],
@@ -71,7 +81,23 @@ struct RawOpened {
     ledger: Ledger,
 }
 
-// A slice goes to C as a pointer and a length, bed level, depth, discharge, mass, base depth and carried water in this order.
+/// A list by value: how many are lent, and the first 32 of them.
+#[repr(C)]
+struct RawOutlets {
+    count: usize,
+    list: [RawOutlet; 32],
+}
+
+#[repr(C)]
+struct RawReplayed {
+    refusal: u32,
+    cell_length: u64,
+    boundaries: [Boundary; 2],
+    ledger: Ledger,
+    outlets: RawOutlets,
+}
+
+// A slice goes to C as a pointer and a length, bed level, depth, discharge, mass, base depth, carried water and outlets in this order.
 extern "C" {
     fn jemmyfern_transport(
         z: *const i64,
@@ -86,6 +112,8 @@ extern "C" {
         bn: usize,
         c: *mut i64,
         cn: usize,
+        o: *mut RawOutlet,
+        on: usize,
         x: u64,
         held: Boundaries,
         ledger: Ledger,
@@ -103,6 +131,8 @@ extern "C" {
         bn: usize,
         c: *mut i64,
         cn: usize,
+        o: *mut RawOutlet,
+        on: usize,
         x: u64,
         held: Boundaries,
         ledger: Ledger,
@@ -121,6 +151,8 @@ extern "C" {
         bn: usize,
         c: *const i64,
         cn: usize,
+        o: *const RawOutlet,
+        on: usize,
         x: u64,
         held: Boundaries,
         ledger: Ledger,
@@ -138,6 +170,8 @@ extern "C" {
         bn: usize,
         c: *mut i64,
         cn: usize,
+        o: *mut RawOutlet,
+        on: usize,
         x: u64,
         held: Boundaries,
         ledger: Ledger,
@@ -156,6 +190,8 @@ extern "C" {
         bn: usize,
         c: *const i64,
         cn: usize,
+        o: *const RawOutlet,
+        on: usize,
         x: u64,
         held: Boundaries,
         ledger: Ledger,
@@ -177,6 +213,8 @@ extern "C" {
         bn: usize,
         c: *mut i64,
         cn: usize,
+        o: *mut RawOutlet,
+        on: usize,
     ) -> RawOpened;
     fn harness_replay(
         sheet: *const u8,
@@ -197,11 +235,12 @@ extern "C" {
         bn: usize,
         c: *mut i64,
         cn: usize,
+        outlets: RawOutlets,
         out: *mut u8,
         outn: usize,
         answers: *mut u64,
         answersn: usize,
-    ) -> RawOpened;
+    ) -> RawReplayed;
     fn harness_program(input: *const u8, inputn: usize, out: *mut u8, outn: usize) -> usize;
 }
 
@@ -271,11 +310,36 @@ fn boundaries(ends: [End; 2]) -> Boundaries {
     }
 }
 
-/// Calls `$function` with the record's columns, X, boundaries and ledger, and whatever follows. `$water` lends depth and discharge,
-/// `$slice` mass, base depth and carried water; nothing writes the bed level.
+/// The list as C is lent it.
+fn lent(outlets: &[Outlet]) -> Vec<RawOutlet> {
+    let raw = |o: &Outlet| RawOutlet {
+        cell: o.cell,
+        want: o.want,
+        drawn: o.drawn,
+        water: o.water,
+        mass: o.nutrient,
+    };
+    outlets.iter().map(raw).collect()
+}
+
+/// The list as a call left it, every field of every entry.
+fn take_back(outlets: &mut [Outlet], list: &[RawOutlet]) {
+    for (outlet, o) in outlets.iter_mut().zip(list) {
+        *outlet = Outlet {
+            cell: o.cell,
+            want: o.want,
+            drawn: o.drawn,
+            water: o.water,
+            nutrient: o.mass,
+        };
+    }
+}
+
+/// Calls `$function` with the record's columns, the list of its outlets, X, boundaries and ledger, and whatever follows. `$water` lends depth and
+/// discharge, `$slice` mass, base depth and carried water; nothing writes the bed level.
 macro_rules! call {
-    ($function:ident, $record:expr, $water:ident, $slice:ident $(, $more:expr)*) => {{
-        let Record { columns, x, ends, book } = $record;
+    ($function:ident, $record:expr, $list:expr, $water:ident, $slice:ident $(, $more:expr)*) => {{
+        let Record { columns, x, ends, book, .. } = $record;
         let Columns { bed, depth, discharge, nutrient, base, carried } = columns;
         unsafe {
             $function(
@@ -285,6 +349,7 @@ macro_rules! call {
                 nutrient.$slice(), nutrient.len(),
                 base.$slice(), base.len(),
                 carried.$slice(), carried.len(),
+                $list.as_mut_ptr(), $list.len(),
                 *x, boundaries(*ends), ledger(*book) $(, $more)*
             )
         }
@@ -292,21 +357,31 @@ macro_rules! call {
 }
 
 pub fn transport(r: &mut Record) -> Answer {
-    answer(call!(jemmyfern_transport, r, as_ptr, as_mut_ptr))
+    let mut list = lent(&r.outlets);
+    let a = call!(jemmyfern_transport, &mut *r, list, as_ptr, as_mut_ptr);
+    take_back(&mut r.outlets, &list);
+    answer(a)
 }
 
 pub fn set_boundaries(r: &mut Record, new: [End; 2]) -> Answer {
-    answer(call!(
+    let mut list = lent(&r.outlets);
+    let a = call!(
         jemmyfern_set_boundaries,
-        r,
+        &mut *r,
+        list,
         as_ptr,
         as_mut_ptr,
         boundaries(new)
-    ))
+    );
+    take_back(&mut r.outlets, &list);
+    answer(a)
 }
 
+/// Writes nowhere, the list included.
 pub fn greatest_step(r: &Record) -> GreatestAnswer {
-    let g = call!(jemmyfern_greatest_step, r, as_ptr, as_ptr);
+    let mut list = lent(&r.outlets);
+    let g = call!(jemmyfern_greatest_step, r, list, as_ptr, as_ptr);
+    assert_eq!(list, lent(&r.outlets));
     GreatestAnswer {
         refusal: g.refusal,
         ends: g.boundaries.map(end),
@@ -317,7 +392,9 @@ pub fn greatest_step(r: &Record) -> GreatestAnswer {
 }
 
 pub fn step(r: &mut Record, t: u64) -> StepAnswer {
-    let s = call!(jemmyfern_step, r, as_mut_ptr, as_mut_ptr, t);
+    let mut list = lent(&r.outlets);
+    let s = call!(jemmyfern_step, &mut *r, list, as_mut_ptr, as_mut_ptr, t);
+    take_back(&mut r.outlets, &list);
     StepAnswer {
         refusal: s.refusal,
         ends: s.boundaries.map(end),
@@ -326,16 +403,19 @@ pub fn step(r: &mut Record, t: u64) -> StepAnswer {
     }
 }
 
-/// Writes the sheet of a record at the start of `out`. Transport first.
+/// Writes the sheet of a record at the start of `out`, and nowhere else. Transport first.
 pub fn write(r: &Record, out: &mut [u8]) -> WriteAnswer {
+    let mut list = lent(&r.outlets);
     let w = call!(
         jemmyfern_write,
         r,
+        list,
         as_ptr,
         as_ptr,
         out.as_mut_ptr(),
         out.len()
     );
+    assert_eq!(list, lent(&r.outlets));
     WriteAnswer {
         refusal: w.refusal,
         ends: w.boundaries.map(end),
@@ -371,27 +451,38 @@ fn opened(o: RawOpened) -> OpenAnswer {
     }
 }
 
-/// Fills the lent columns from a sheet.
-pub fn open(sheet: &[u8], columns: &mut Columns) -> OpenAnswer {
-    opened(lend!(
+/// Fills the lent columns from a sheet, and makes the lent list ready.
+pub fn open(sheet: &[u8], columns: &mut Columns, outlets: &mut [Outlet]) -> OpenAnswer {
+    let mut list = lent(outlets);
+    let o = lend!(
         jemmyfern_open,
         columns,
         [sheet.as_ptr(), sheet.len()],
-        []
-    ))
+        [list.as_mut_ptr(), list.len()]
+    );
+    take_back(outlets, &list);
+    opened(o)
 }
 
-/// Opens the first sheet and plays the calls of the words. The answer is the first opening's number, and X, boundaries and ledger as the last
-/// call left them.
+/// Opens the first sheet with the outlets lent to it, and plays the calls of the words. The answer is the first opening's number, and X, boundaries and
+/// ledger as the last call left them; and the outlets, of a list by value the first 32.
 pub fn replay(
     sheet: &[u8],
     words: &[u64],
     sheets: &[u8],
     columns: &mut Columns,
+    outlets: &[Outlet],
     out: &mut [u8],
     answers: &mut [u64],
-) -> OpenAnswer {
-    opened(lend!(
+) -> (OpenAnswer, Vec<Outlet>) {
+    let nothing = lent(&[Outlet::default()])[0];
+    let mut list = lent(outlets);
+    list.resize(32, nothing);
+    let by_value = RawOutlets {
+        count: outlets.len(),
+        list: list.try_into().expect("32 entries"),
+    };
+    let r = lend!(
         harness_replay,
         columns,
         [
@@ -403,12 +494,28 @@ pub fn replay(
             sheets.len()
         ],
         [
+            by_value,
             out.as_mut_ptr(),
             out.len(),
             answers.as_mut_ptr(),
             answers.len()
         ]
-    ))
+    );
+    let mut last = vec![Outlet::default(); r.outlets.count];
+    take_back(&mut last, &r.outlets.list);
+    assert!(r
+        .outlets
+        .list
+        .iter()
+        .skip(last.len())
+        .all(|o| *o == nothing));
+    let answer = OpenAnswer {
+        refusal: r.refusal,
+        x: r.cell_length,
+        ends: r.boundaries.map(end),
+        book: book(r.ledger),
+    };
+    (answer, last)
 }
 
 /// Room for the text of any input, and a byte that no text holds.

@@ -6,7 +6,7 @@ use std::fs;
 use std::path::{Path, PathBuf};
 
 /// They stand at the end: each shows by itself that a contract says its call's definition, or that a statement is of every list.
-const PINS: [&str; 9] = [
+const PINS: [&str; 21] = [
     "open-says",
     "step-says",
     "transport-says",
@@ -15,7 +15,19 @@ const PINS: [&str; 9] = [
     "write-says",
     "of-every-list",
     "after-definitions",
-    "depths-of-definitions",
+    "steps-of-definitions",
+    "open-owes-nothing",
+    "open-clause",
+    "step-owes-nothing",
+    "step-clause",
+    "transport-owes-nothing",
+    "transport-clause",
+    "setting-owes-nothing",
+    "setting-clause",
+    "greatest-owes-nothing",
+    "greatest-clause",
+    "write-owes-nothing",
+    "write-clause",
 ];
 
 struct Source {

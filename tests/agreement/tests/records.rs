@@ -1,7 +1,7 @@
 //! Transport, setting of boundaries and the greatest step against the second implementation, on sound and damaged records: the answer, every
 //! column entry by entry, after refusals as well.
 
-use agreement::both::{broken, fill_ledger, same, Call};
+use agreement::both::{broken, fill_ledger, same, Call, GROUNDS};
 use agreement::calls;
 use reference::random::{any_record, damage_end, damage_record, end, Random, Record};
 use reference::record::End;
@@ -43,7 +43,7 @@ fn around(r: &mut Random, record: &Record, seen: &mut Seen) {
         6
     );
     let mut later = record.clone();
-    let ground = r.pick(&[7, 8, 9]);
+    let ground = r.pick(&[7, 16, 8, 9]);
     damage_record(r, &mut later, ground);
     assert_eq!(same(Call::SetBoundaries(new), &mut later).refusal, 6);
 }
@@ -61,7 +61,7 @@ fn calls_agree_on_sound_and_damaged_records() {
     }
     for call in three([End::default(); 2]).map(Call::name) {
         for several in [false, true] {
-            for ground in [4, 5, 6, 7, 8, 9] {
+            for ground in GROUNDS {
                 assert!(
                     seen.contains_key(&(call, ground, several)),
                     "{call} {ground} {several}"

@@ -181,7 +181,7 @@ fn single_steps_agree() {
         let record = record(&mut r, n);
         around(&mut r, &record, &mut seen);
     }
-    for ground in (4..=13).chain([0]) {
+    for ground in (4..=13).chain([0, 16]) {
         assert!(seen.grounds.contains_key(&ground), "{ground}");
     }
     for (mark, times) in &seen.marks {

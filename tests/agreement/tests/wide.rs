@@ -1,14 +1,15 @@
-//! Numbers at and beyond 2^32 and 2^63 in every argument that has the bits for them: X, t, boundaries held and given, columns, ledger and sheet.
+//! Numbers at and beyond 2^32 and 2^63 in every argument that has the bits for them: X, t, boundaries held and given, columns, outlets, ledger and sheet.
 //! Cut to fewer bits many of them would be sound. Each call is compared with the second implementation, and its number is the paper's.
 
-use agreement::both::{fresh, greatest, same, same_opening, same_writing, Call, WALL};
+use agreement::both::{fresh, greatest, same, same_opening, same_opening_with, same_writing};
+use agreement::both::{Call, GROUNDS, WALL};
 use agreement::sheets::Opening;
-use reference::random::{cell_count, end, kinds, record_of, totals_mut};
+use reference::random::{cell_count, end, kinds, lend_outlets, record_of, totals_mut};
 use reference::random::{Random, Record, COLUMN_ORDERS};
 use reference::record::{BED_LIMIT, DEEPEST, FASTEST, FED, MOST_TOTAL, MOST_X, OPEN, RICHEST};
 use reference::sheet::sheet_length;
 use reference::step::MOST_T;
-use reference::{Columns, End};
+use reference::{Columns, End, Outlet};
 use std::array::from_fn;
 use std::collections::BTreeSet;
 
@@ -44,6 +45,7 @@ enum Field {
     Cell(usize, Column),
     /// of an interface
     Carried(usize),
+    Outlet(usize, Entry),
     /// left, then right
     Total(usize),
     TimeStep,
@@ -83,6 +85,24 @@ const COLUMNS: [Column; 5] = [
     Column::Base,
 ];
 
+/// A number of an outlet.
+#[derive(Clone, Copy, Debug, PartialEq)]
+enum Entry {
+    Cell,
+    Want,
+    Drawn,
+    Water,
+    Mass,
+}
+
+const ENTRIES: [Entry; 5] = [
+    Entry::Cell,
+    Entry::Want,
+    Entry::Drawn,
+    Entry::Water,
+    Entry::Mass,
+];
+
 impl Field {
     fn place(self, given: &mut Given) -> Place<'_> {
         let Given { record, new, t } = given;
@@ -97,6 +117,7 @@ impl Field {
             Field::Cell(i, Column::Mass) => Place::Unsigned(&mut c.nutrient[i]),
             Field::Cell(i, Column::Base) => Place::Unsigned(&mut c.base[i]),
             Field::Carried(i) => Place::Signed(&mut c.carried[i]),
+            Field::Outlet(k, entry) => entry.place(&mut record.outlets[k]),
             Field::Total(k) => {
                 let total = totals_mut(&mut record.book).into_iter().nth(k);
                 Place::Unsigned(total.expect("eight totals"))
@@ -111,8 +132,9 @@ impl Field {
             Field::CellLength => 5,
             Field::Boundary(..) => 6,
             Field::Cell(..) => 7,
-            Field::Carried(_) => 8,
-            Field::Total(_) => 9,
+            Field::Outlet(_, Entry::Cell | Entry::Want) => 16,
+            Field::Carried(_) | Field::Outlet(_, Entry::Drawn) => 8,
+            Field::Total(_) | Field::Outlet(_, Entry::Water | Entry::Mass) => 9,
             Field::TimeStep => 10,
         }
     }
@@ -134,8 +156,10 @@ impl Field {
             Field::Cell(_, Column::Depth | Column::Base) => DEEPEST,
             Field::Cell(i, Column::Discharge) => FASTEST * c.depth[i],
             Field::Cell(i, Column::Mass) => RICHEST * c.base[i],
-            Field::Carried(_) => DEEPEST,
-            Field::Total(_) => MOST_TOTAL,
+            Field::Outlet(_, Entry::Cell) => c.bed.len() as u64 - 1,
+            Field::Outlet(_, Entry::Want) => DEEPEST,
+            Field::Carried(_) | Field::Outlet(_, Entry::Drawn) => DEEPEST,
+            Field::Total(_) | Field::Outlet(_, Entry::Water | Entry::Mass) => MOST_TOTAL,
             Field::TimeStep => MOST_T,
         }
     }
@@ -171,6 +195,18 @@ impl Part {
             Part::Concentration => Place::Unsigned(&mut boundary.concentration),
             Part::Discharge => Place::Signed(&mut boundary.discharge),
         }
+    }
+}
+
+impl Entry {
+    fn place(self, outlet: &mut Outlet) -> Place<'_> {
+        Place::Unsigned(match self {
+            Entry::Cell => &mut outlet.cell,
+            Entry::Want => &mut outlet.want,
+            Entry::Drawn => &mut outlet.drawn,
+            Entry::Water => &mut outlet.water,
+            Entry::Mass => &mut outlet.nutrient,
+        })
     }
 }
 
@@ -231,6 +267,13 @@ fn reach(depth: u64, boundaries: [End; 2]) -> Record {
     fresh(1_000, boundaries, &cells)
 }
 
+/// Two outlets at the last cell and one at the first between them, which want some of what a step of 5 ms leaves.
+fn outlets(depth: u64) -> Vec<Outlet> {
+    [(2, depth / 20), (0, depth / 40), (2, 1)]
+        .map(|(cell, want)| Outlet::new(cell, want))
+        .to_vec()
+}
+
 /// Pairs of boundaries with every kind on either side.
 fn pairs(depth: u64) -> [[End; 2]; 3] {
     let open = End {
@@ -247,8 +290,8 @@ fn pairs(depth: u64) -> [[End; 2]; 3] {
     [[WALL, open], [open, fed], [fed, WALL]]
 }
 
-/// Sound arguments, with nothing carried and with water carried by a step. The shallow cells and boundaries allow no discharge or mass near 2^31, the
-/// deep ones some beyond 2^32.
+/// Sound arguments, with nothing carried or drawn and with water carried and drawn by a step. The shallow cells and boundaries allow no discharge or
+/// mass near 2^31, the deep ones some beyond 2^32.
 fn sound_arguments() -> Vec<Given> {
     let mut list = Vec::new();
     for depth in [4_000, 3_000_000] {
@@ -258,11 +301,13 @@ fn sound_arguments() -> Vec<Given> {
                 new: pairs(depth)[new],
                 t: 5,
             };
+            given.record.outlets = outlets(depth);
             assert_eq!(numbers(&given), [0; 5]);
             list.push(given.clone());
             let t = greatest(&given.record);
             assert_eq!(same(Call::Step(t), &mut given.record).refusal, 0);
             assert_eq!(numbers(&given), [0, 0, 0, 0, 14]);
+            assert!(given.record.outlets.iter().all(|o| o.drawn > 0));
             list.push(given);
         }
     }
@@ -285,6 +330,12 @@ fn changed(sound: &Given, fields: &[Field]) -> Vec<(Change, Given)> {
     list
 }
 
+/// Where a ground stands in checking order: 16 comes after 7.
+fn order(ground: u32) -> usize {
+    let of_record = GROUNDS.iter().position(|&g| g == ground);
+    of_record.unwrap_or(ground as usize)
+}
+
 /// For each call the first ground of what is changed in sound arguments to a value that the paper does not allow.
 fn first_grounds(sound: &Given, changes: &[Change]) -> [Option<u32>; 5] {
     let allowed = |field: Field, value: i128| value.unsigned_abs() <= field.most(sound).into();
@@ -293,7 +344,7 @@ fn first_grounds(sound: &Given, changes: &[Change]) -> [Option<u32>; 5] {
         concerned
             .filter(|(field, value)| !allowed(*field, *value))
             .map(|(field, _)| field.ground())
-            .min()
+            .min_by_key(|&ground| order(ground))
     })
 }
 
@@ -390,6 +441,57 @@ fn wide_water_through_every_interface() {
     }
 }
 
+/// 10^18 lies between 2^59 and 2^60, so a total beyond 2^32 may stand at an outlet, and nothing else.
+#[test]
+fn wide_outlets() {
+    for entry in ENTRIES {
+        for k in 0..3 {
+            let allowed = matches!(entry, Entry::Water | Entry::Mass);
+            let fields = [Field::Outlet(k, entry)];
+            assert_eq!(some_allowed(&fields), allowed, "{k} {entry:?}");
+        }
+    }
+}
+
+/// Of two outlets at one cell the first has drawn so much more, and the other so much less, which passes 0: cut to 64 bits their sum is the right one.
+#[test]
+fn wide_drawn_water_that_wraps() {
+    for sound in sound_arguments() {
+        for more in [1 << 31, 1 << 32, 1 << 33, 1 << 62, 1 << 63] {
+            let mut given = sound.clone();
+            let [first, _, last] = &mut given.record.outlets[..] else {
+                panic!("three outlets");
+            };
+            assert_eq!(first.cell, last.cell);
+            first.drawn = first.drawn.wrapping_add(more);
+            last.drawn = last.drawn.wrapping_sub(more);
+            assert_eq!(numbers(&given), [8; 5], "{more} in {sound:?}");
+        }
+    }
+}
+
+/// Of a list lent to an opening cell and want are looked at, and the rest becomes 0 whatever it is.
+#[test]
+fn wide_outlets_lent_to_an_opening() {
+    let mut seen = BTreeSet::new();
+    for sound in sound_arguments().into_iter().filter(settled) {
+        let opening = Opening::of(sound.record.clone(), COLUMN_ORDERS[0]);
+        let fields = [0, 1, 2].map(|k| ENTRIES.map(|entry| Field::Outlet(k, entry)));
+        for (change, Given { record, .. }) in changed(&sound, fields.as_flattened()) {
+            let opened = same_opening_with(&opening.sheet, &opening.lent, &record.outlets);
+            let expected = match change.0.ground() {
+                16 => Err(16),
+                _ => Ok(sound.record.clone()),
+            };
+            assert_eq!(opened, expected, "{change:?} in {sound:?}");
+            let refused = same_opening_with(&opening.sheet[..79], &opening.lent, &record.outlets);
+            assert_eq!(refused, Err(1));
+            seen.insert(opened.is_ok());
+        }
+    }
+    assert_eq!(seen.len(), 2);
+}
+
 /// 10^18 lies between 2^59 and 2^60.
 #[test]
 fn wide_totals() {
@@ -403,6 +505,14 @@ fn wide_time_steps() {
     assert!(!some_allowed(&[Field::TimeStep]));
 }
 
+/// Nothing is carried or drawn.
+fn settled(given: &Given) -> bool {
+    let Record {
+        columns, outlets, ..
+    } = &given.record;
+    columns.carried.iter().all(|&c| c == 0) && outlets.iter().all(|o| o.drawn == 0)
+}
+
 /// What a sheet can hold of them opens as the record, or is refused on its ground.
 #[test]
 fn wide_numbers_in_a_sheet() {
@@ -411,7 +521,6 @@ fn wide_numbers_in_a_sheet() {
     let mut fields = vec![Field::CellLength];
     fields.extend([0, 1].map(of_boundary).concat());
     fields.extend([0, 1, 2].map(of_cell).concat());
-    let settled = |given: &Given| given.record.columns.carried.iter().all(|&c| c == 0);
     let mut seen = BTreeSet::new();
     for sound in sound_arguments().into_iter().filter(settled) {
         for (change, Given { record, .. }) in changed(&sound, &fields) {
@@ -422,7 +531,8 @@ fn wide_numbers_in_a_sheet() {
             let expected = ground.map_or(Ok(record.clone()), Err);
             for order in [COLUMN_ORDERS[0], COLUMN_ORDERS[23]] {
                 let opening = Opening::of(record.clone(), order);
-                let opened = same_opening(&opening.sheet, &opening.lent);
+                let list = &record.outlets;
+                let opened = same_opening_with(&opening.sheet, &opening.lent, list);
                 assert_eq!(opened, expected, "{change:?} in {sound:?}");
             }
             seen.insert(ground);
@@ -452,23 +562,28 @@ fn wide_numbers_in_lent_columns() {
     }
 }
 
-/// Any field of a record of n cells, of the boundaries to set, or t.
-fn any_field(r: &mut Random, n: usize) -> Field {
+/// Any field of a record, of the boundaries to set, or t.
+fn any_field(r: &mut Random, record: &Record) -> Field {
     let mut below = |limit: usize| r.below(limit as u64) as usize;
-    match below(8) {
+    let (n, outlets) = (record.columns.bed.len(), record.outlets.len());
+    match below(10) {
         0 => Field::CellLength,
         1 => Field::TimeStep,
         2 | 3 => Field::Boundary(below(4), PARTS[below(5)]),
         4 | 5 => Field::Cell(below(n), COLUMNS[below(5)]),
         6 => Field::Carried(below(n + 1)),
+        7 | 8 if outlets > 0 => Field::Outlet(below(outlets), ENTRIES[below(5)]),
         _ => Field::Total(below(8)),
     }
 }
 
-/// A sound record of any length, carrying water or not, with sound arguments.
+/// A sound record of any length, carrying water or not, with or without outlets, with sound arguments.
 fn any_given(r: &mut Random) -> Given {
     let (n, kinds, carrying) = (cell_count(r), kinds(r), r.one_in(2));
-    let record = record_of(r, n, kinds, carrying);
+    let mut record = record_of(r, n, kinds, carrying);
+    if r.one_in(2) {
+        lend_outlets(r, &mut record, carrying);
+    }
     Given {
         t: 1 + r.below(greatest(&record)),
         new: [end(r), end(r)],
@@ -481,7 +596,7 @@ fn mixture(r: &mut Random, sound: &Given) -> (Vec<Change>, Given) {
     let mut given = sound.clone();
     let mut changes: Vec<Change> = Vec::new();
     for _ in 0..1 + r.below(3) {
-        let field = any_field(r, sound.record.columns.bed.len());
+        let field = any_field(r, &sound.record);
         if changes.iter().all(|&(changed, _)| changed != field) {
             let value = r.pick(&field.place(&mut given).wide());
             field.place(&mut given).set(value);
@@ -509,7 +624,7 @@ fn mixtures_of_wide_numbers() {
         }
     }
     for call in 0..5 {
-        for number in [0, 5, 6, 7, 8, 9] {
+        for number in [0, 5, 6, 7, 16, 8, 9] {
             assert!(seen.contains(&(call, number)), "{call} {number}");
         }
     }

@@ -88,7 +88,7 @@ fn sheets_come_back() {
     assert_eq!(in_order, 250);
 }
 
-/// The first number of the list that applies: 4 to 9 before 14, 14 before 15; 15 up to the last byte.
+/// The first number of the list that applies: 4 to 9 and 16 before 14, 14 before 15; 15 up to the last byte.
 #[test]
 fn grounds_of_a_write() {
     let mut r = Random::new(71);
@@ -133,6 +133,6 @@ fn grounds_of_a_write() {
     }
     assert_eq!(
         Vec::from_iter(seen.into_keys()),
-        [0, 4, 5, 6, 7, 8, 9, 14, 15]
+        [0, 4, 5, 6, 7, 8, 9, 14, 15, 16]
     );
 }

@@ -1,4 +1,5 @@
-//! Speed as a ratio to plain Rust, both built for release and measured in one run. Not a test: it prints, and fails on nothing.
+//! Speed as a ratio to plain Rust, both built for release and measured in one run; of a step with outlets as a ratio to the same step without. Not a
+//! test: it prints, and fails on nothing.
 //!
 //! Each pair goes over the same inputs in turn, one call of a function that is not inlined at a time; the least of several
 //! rounds counts, since whatever else the machine does only adds time. An argument picks the lines whose name it is part of.
@@ -7,12 +8,13 @@ mod fast;
 
 use agreement::both::broken;
 use reference::flux;
+use reference::outlet::MOST_OUTLETS;
 use reference::random::{
     any_record, end_of_kind, record_of, sheet_of, Random, Record, COLUMN_ORDERS,
 };
 use reference::record::{FED, OPEN};
 use reference::sheet::field;
-use reference::{Book, Columns};
+use reference::{Book, Columns, Outlet};
 use std::hint::black_box;
 use std::time::Instant;
 
@@ -28,6 +30,17 @@ fn round<I: Copy, O>(inputs: &[I], call: &impl Fn(I) -> O) -> f64 {
     start.elapsed().as_secs_f64() * 1e9 / inputs.len() as f64
 }
 
+/// The argument is part of the name, or there is none.
+fn picked(name: &str) -> bool {
+    let only = std::env::args().nth(1).unwrap_or_default();
+    name.contains(&only)
+}
+
+/// The heads of the two numbers.
+fn print_heads(name: &str, ours: &str, theirs: &str) {
+    println!("{name:<40} {ours:>12} {theirs:>12}");
+}
+
 /// Prints nanoseconds a call of both, and ours over theirs; gives ours, or no number where the line was not picked.
 fn compare<I: Copy, A, B>(
     name: &str,
@@ -36,8 +49,7 @@ fn compare<I: Copy, A, B>(
     theirs: impl Fn(I) -> B,
     most: f64,
 ) -> f64 {
-    let only = std::env::args().nth(1).unwrap_or_default();
-    if !name.contains(&only) {
+    if !picked(name) {
         return f64::NAN;
     }
     let (mut proved, mut plain) = (f64::MAX, f64::MAX);
@@ -76,7 +88,7 @@ fn compare_transport(r: &mut Random, cells: usize) {
             let mut record = scratch.borrow_mut();
             record.clone_from(&records[i]);
             let (x, ends, book) = (record.x, record.ends, record.book);
-            reference::settle(&mut record.columns, x, ends, book)
+            reference::settle(&mut record.columns, &mut [], x, ends, book)
         },
         1.2,
     );
@@ -91,7 +103,13 @@ fn compare_greatest(r: &mut Random, cells: usize) {
         |i| agreement::calls::greatest_step(&records[i]),
         |i| {
             let record = &records[i];
-            reference::greatest_step(&record.columns, record.x, record.ends, record.book)
+            reference::greatest_step(
+                &record.columns,
+                &record.outlets,
+                record.x,
+                record.ends,
+                record.book,
+            )
         },
         1.2,
     );
@@ -121,6 +139,7 @@ fn flow(r: &mut Random, cells: usize, slope: i64) -> Record {
     boundaries[0].discharge = depth * velocity;
     Record {
         columns,
+        outlets: vec![],
         x: 10_000,
         ends: boundaries,
         book: Book::default(),
@@ -130,11 +149,12 @@ fn flow(r: &mut Random, cells: usize, slope: i64) -> Record {
 fn reference_step(p: &mut Planned) -> reference::StepAnswer {
     let Record {
         columns,
+        outlets,
         x,
         ends,
         book,
     } = &mut p.record;
-    reference::step(columns, *x, *ends, *book, p.t)
+    reference::step(columns, outlets, *x, *ends, *book, p.t)
 }
 
 /// Accepted greatest steps with a transport first, or that keep their sums, each out of a flow of its own some steps old.
@@ -144,7 +164,8 @@ fn planned(r: &mut Random, cells: usize, slope: i64, transported: bool) -> Vec<P
         let mut now = flow(r, cells, slope);
         let mut age = r.below(30);
         loop {
-            let t = reference::greatest_step(&now.columns, now.x, now.ends, now.book).t;
+            let t =
+                reference::greatest_step(&now.columns, &now.outlets, now.x, now.ends, now.book).t;
             let before = now.clone();
             let mut p = Planned { record: now, t };
             let answer = reference_step(&mut p);
@@ -205,12 +226,83 @@ fn compare_steps(r: &mut Random) {
     }
 }
 
+/// Each flow as it is, before any step.
+fn new_flows(r: &mut Random, cells: usize) -> Vec<Planned> {
+    let new = |r: &mut Random| {
+        let record = flow(r, cells, 1_000);
+        let answer = agreement::calls::greatest_step(&record);
+        Planned {
+            record,
+            t: answer.t,
+        }
+    };
+    (0..40).map(|_| new(r)).collect()
+}
+
+/// One step, with outlets against the same without any; putting the record back as it came counts for both. A first step makes no transport, so that
+/// both do the same beside drawing.
+fn compare_drawing(name: &str, plain: &[Planned], outlets: &[Outlet], most: f64) {
+    let drawn: Vec<Record> = (plain.iter())
+        .map(|p| Record {
+            outlets: outlets.to_vec(),
+            ..p.record.clone()
+        })
+        .collect();
+    let scratch = std::cell::RefCell::new(drawn[0].clone());
+    let step = |from: &Record, t: u64| {
+        let mut record = scratch.borrow_mut();
+        record.clone_from(from);
+        let answer = agreement::calls::step(&mut record, t);
+        assert_eq!((answer.refusal, answer.settled), (0, false));
+    };
+    compare(
+        name,
+        &(0..plain.len()).collect::<Vec<_>>(),
+        |i| step(&drawn[i], plain[i].t),
+        |i| step(&plain[i].record, plain[i].t),
+        most,
+    );
+}
+
+/// A step of 512 cells with outlets, against the same without: none, 32 along the reach, 32 at one cell that fit, and that have to share.
+fn compare_outlets(r: &mut Random) {
+    let plain = new_flows(r, 512);
+    let list = |place: fn(u64) -> u64, want: u64| -> Vec<Outlet> {
+        let outlets = (0..MOST_OUTLETS as u64).map(|k| Outlet::new(place(k), want));
+        outlets.collect()
+    };
+    let lines = [
+        ("step of 512 cells, no outlets", vec![], 1.05),
+        (
+            "step of 512 cells, 32 outlets spread",
+            list(|k| 16 * k, 500),
+            1.2,
+        ),
+        (
+            "step of 512 cells, 32 outlets in a cell",
+            list(|_| 256, 500),
+            1.2,
+        ),
+        (
+            "step of 512 cells, 32 outlets sharing",
+            list(|_| 256, 4_000_000),
+            1.2,
+        ),
+    ];
+    if lines.iter().any(|(name, ..)| picked(name)) {
+        print_heads("a proved call", "with outlets", "without");
+    }
+    for (name, outlets, most) in lines {
+        compare_drawing(name, &plain, &outlets, most);
+    }
+}
+
 /// The whole program on the longest run that it takes: 1,000 steps on 512 cells, opened, transported and printed.
 fn compare_program(r: &mut Random) {
     let mut now = flow(r, 512, 1_000);
     now.ends = [FED, OPEN].map(|kind| end_of_kind(r, kind));
     let mut input = sheet_of(&now, COLUMN_ORDERS[0]);
-    let t = reference::greatest_step(&now.columns, now.x, now.ends, now.book).t / 2;
+    let t = reference::greatest_step(&now.columns, &now.outlets, now.x, now.ends, now.book).t / 2;
     input.extend(1_000u32.to_le_bytes());
     input.extend(field(t).to_le_bytes());
     assert_eq!(
@@ -230,10 +322,20 @@ fn compare_program(r: &mut Random) {
 fn fast_step_agrees(r: &mut Random) {
     for _ in 0..2_000 {
         let sound = any_record(r);
-        let most = reference::greatest_step(&sound.columns, sound.x, sound.ends, sound.book).t;
+        let most = reference::greatest_step(
+            &sound.columns,
+            &sound.outlets,
+            sound.x,
+            sound.ends,
+            sound.book,
+        )
+        .t;
         let any = r.below(1_002);
         let mut list: Vec<(Record, u64)> = [most, most + 1, any].map(|t| (sound.clone(), t)).into();
-        list.extend(broken(r, &sound).into_iter().map(|b| (b.record, most)));
+        // it takes no outlets, so what is broken by them is left out
+        let broken = broken(r, &sound).into_iter();
+        let broken = broken.filter(|b| b.record.outlets.is_empty());
+        list.extend(broken.map(|b| (b.record, most)));
         for (record, t) in list {
             let mut fast = record.clone();
             let answer = fast::step(&mut fast.columns, record.x, record.ends, record.book, t);
@@ -245,7 +347,7 @@ fn fast_step_agrees(r: &mut Random) {
 }
 
 fn main() {
-    println!("{:<40} {:>12} {:>12}", "a call", "proved", "plain Rust");
+    print_heads("a call", "proved", "plain Rust");
     let mut r = Random::new(1);
     fast_step_agrees(&mut r);
     let depths: Vec<u64> = (0..INPUTS).map(|_| r.below(4_000_001)).collect();
@@ -269,5 +371,6 @@ fn main() {
     compare_transport(&mut r, 512);
     compare_greatest(&mut r, 512);
     compare_steps(&mut r);
+    compare_outlets(&mut r);
     compare_program(&mut r);
 }

@@ -51,6 +51,9 @@ pub struct Side {
 pub struct Crossing {
     /// N, µm, positive rightwards
     pub water: i64,
+    /// W of the left side and of the right side, each towards the other, µm
+    pub from_left: u64,
+    pub from_right: u64,
     /// P, µm·mm/s
     pub push: i64,
     pub still_left: i64,
@@ -161,6 +164,8 @@ pub fn interface(t: u64, x: u64, l: Water, r: Water) -> Crossing {
     let right = facing(t, x, r, l.bed, -r.speed);
     Crossing {
         water: left.water as i64 - right.water as i64,
+        from_left: left.water,
+        from_right: right.water,
         push: (left.momentum + right.momentum) as i64,
         still_left: left.still as i64,
         still_right: right.still as i64,

@@ -1,6 +1,7 @@
 //! The greatest step ("The greatest step").
 
 use crate::flux::Water;
+use crate::outlet::Outlet;
 use crate::record::{check, Book, Columns, End, FED};
 use crate::step::MOST_T;
 
@@ -16,7 +17,13 @@ pub struct GreatestAnswer {
 }
 
 /// "the greatest t in 1..1,000 that meets CFL, and the place of the greatest |u|+a"
-pub fn greatest_step(c: &Columns, x: u64, ends: [End; 2], book: Book) -> GreatestAnswer {
+pub fn greatest_step(
+    c: &Columns,
+    outlets: &[Outlet],
+    x: u64,
+    ends: [End; 2],
+    book: Book,
+) -> GreatestAnswer {
     let mut answer = GreatestAnswer {
         refusal: 0,
         ends,
@@ -24,7 +31,7 @@ pub fn greatest_step(c: &Columns, x: u64, ends: [End; 2], book: Book) -> Greates
         t: 0,
         place: 0,
     };
-    let n = match check(c, x, &ends, &[], &book) {
+    let n = match check(c, outlets, x, &ends, &[], &book) {
         Ok(n) => n,
         Err(refusal) => {
             answer.refusal = refusal;

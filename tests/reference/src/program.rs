@@ -34,7 +34,9 @@ fn run(input: &[u8]) -> Result<(Columns, Book), u32> {
     // columns lent for the n that the sheet's bytes hold; another n is ground 1 or 2
     let n = sheet.len().saturating_sub(HEADER) / PER_CELL;
     let mut c = Columns::of_cells(n);
-    let opened = open(sheet, &mut c);
+    // a run has no outlets
+    let outlets = &mut [];
+    let opened = open(sheet, &mut c, outlets);
     accepted(opened.refusal)?;
     let (x, ends, mut book) = (opened.x, opened.ends, opened.book);
 
@@ -43,11 +45,11 @@ fn run(input: &[u8]) -> Result<(Columns, Book), u32> {
         return Err(10);
     }
     for _ in 0..count {
-        let stepped = step(&mut c, x, ends, book, t);
+        let stepped = step(&mut c, outlets, x, ends, book, t);
         accepted(stepped.refusal)?;
         book = stepped.book;
     }
-    let settled = settle(&mut c, x, ends, book);
+    let settled = settle(&mut c, outlets, x, ends, book);
     accepted(settled.refusal)?;
     Ok((c, settled.book))
 }

@@ -1,11 +1,14 @@
-//! Deterministic random records and sheets, sound or damaged, for tests.
+//! Deterministic random records, outlets and sheets, sound or damaged, for tests.
 
 mod damage;
+mod outlets;
 mod sheets;
 
 pub use damage::{damage_columns, damage_end, damage_record};
+pub use outlets::{choose_wants, damage_list, lend_outlets, odd_outlets, outlets_for_opening};
 pub use sheets::{damage_sheet, sheet, sheet_of, COLUMN_ORDERS};
 
+use crate::outlet::Outlet;
 use crate::record::{
     Book, Columns, End, Totals, BED_LIMIT, DEEPEST, FASTEST, FED, LEAST_X, MOST_CELLS, MOST_TOTAL,
     MOST_X, OPEN, RICHEST, WALL,
@@ -51,6 +54,7 @@ impl Random {
 #[derive(Clone, Debug, PartialEq, Eq, Default)]
 pub struct Record {
     pub columns: Columns,
+    pub outlets: Vec<Outlet>,
     pub x: u64,
     pub ends: [End; 2],
     pub book: Book,
@@ -96,7 +100,8 @@ pub fn any_record(r: &mut Random) -> Record {
     record(r, n)
 }
 
-/// A sound record; without `carrying` it is settled, as after an opening or a settling.
+/// A sound record without outlets; unless `carrying` it is settled, as after an opening or a
+/// settling.
 pub fn record_of(r: &mut Random, n: usize, kinds: [u32; 2], carrying: bool) -> Record {
     let style = style(r);
     let ends = kinds.map(|kind| end_like(r, kind, &style));
@@ -110,6 +115,7 @@ pub fn record_of(r: &mut Random, n: usize, kinds: [u32; 2], carrying: bool) -> R
     }
     Record {
         columns: c,
+        outlets: vec![],
         x: cell_length(r),
         ends,
         book: book(r),

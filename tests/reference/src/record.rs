@@ -1,4 +1,6 @@
-//! What a record holds, and grounds 4 to 9 ("What a record holds", "Grounds for refusal").
+//! What a record holds, and grounds 4 to 9 with 16 ("What a record holds", "Grounds for refusal").
+
+use crate::outlet::{drawn_at, list_sound, totals_sound, Outlet};
 
 /// n is 1..512
 pub const MOST_CELLS: usize = 512;
@@ -142,9 +144,11 @@ pub fn ground(number: u32, kept: bool) -> Result<(), u32> {
     }
 }
 
-/// Grounds 4 to 9 in checking order; gives n. `given` are ends newly given to an end setting.
+/// Grounds 4 to 9 in checking order, 16 "checked after 7"; gives n. `given` are ends newly given
+/// to an end setting.
 pub fn check(
     c: &Columns,
+    outlets: &[Outlet],
     x: u64,
     ends: &[End; 2],
     given: &[End],
@@ -156,8 +160,9 @@ pub fn check(
     ground(6, ends.iter().all(end_sound))?;
     ground(6, given.iter().all(end_sound))?;
     ground(7, (0..n).all(|i| cell_sound(c, i)))?;
-    ground(8, carried_sound(c, ends))?;
-    ground(9, book.sound())?;
+    ground(16, list_sound(outlets, n))?;
+    ground(8, carried_sound(c, outlets, ends))?;
+    ground(9, book.sound() && totals_sound(outlets))?;
     Ok(n)
 }
 
@@ -209,14 +214,17 @@ pub fn outflow(left: i64, right: i64) -> u64 {
     (right.max(0) + (-left).max(0)) as u64
 }
 
-/// 8: "The carried water breaks its rules." Ranges come first: later sums stay small.
-fn carried_sound(c: &Columns, ends: &[End; 2]) -> bool {
+/// 8: "The carried water breaks its rules", drawn water included. Ranges come first: later sums
+/// stay small.
+fn carried_sound(c: &Columns, outlets: &[Outlet], ends: &[End; 2]) -> bool {
     let n = c.bed.len();
     c.carried.iter().all(|w| w.unsigned_abs() <= DEEPEST)
         && (0..n).all(|i| {
             let (left, right) = (c.carried[i], c.carried[i + 1]);
-            c.depth[i] as i64 == c.base[i] as i64 + left - right
-                && outflow(left, right) <= c.base[i]
+            let drawn = drawn_at(outlets, i);
+            drawn <= u128::from(c.base[i])
+                && c.depth[i] as i64 == c.base[i] as i64 + left - right - drawn as i64
+                && outflow(left, right) + drawn as u64 <= c.base[i]
         })
         && (ends[0].kind != WALL || c.carried[0] == 0)
         && (ends[1].kind != WALL || c.carried[n] == 0)

@@ -1,5 +1,7 @@
-//! The sheet: opening (grounds 1 to 7) and writing (grounds 4 to 9, 14, 15).
+//! The sheet: opening (grounds 1 to 7, 16) and writing (grounds 4 to 9 with 16, then 14, 15).
+//! "The sheet does not hold" the list of outlets.
 
+use crate::outlet::{list_sound, Outlet};
 use crate::record::{
     check, end_sound, ground, length_sound, values_sound, Book, Columns, End, MOST_CELLS,
 };
@@ -45,8 +47,8 @@ struct Layout {
 }
 
 /// Fills the lent columns from a sheet; their lengths are those of ground 4.
-pub fn open(sheet: &[u8], c: &mut Columns) -> OpenAnswer {
-    match check_sheet(sheet, c) {
+pub fn open(sheet: &[u8], c: &mut Columns, outlets: &mut [Outlet]) -> OpenAnswer {
+    match check_sheet(sheet, c, outlets) {
         Ok(layout) => {
             for i in 0..layout.n {
                 let (z, h, q, m) = cell_at(sheet, &layout.offsets, i);
@@ -57,6 +59,7 @@ pub fn open(sheet: &[u8], c: &mut Columns) -> OpenAnswer {
                 c.base[i] = h; // "A sheet opens with b = h, c = 0, an empty book."
             }
             c.carried.fill(0);
+            outlets.iter_mut().for_each(|o| *o = o.opened());
             OpenAnswer {
                 refusal: 0,
                 x: layout.x,
@@ -73,8 +76,8 @@ pub fn open(sheet: &[u8], c: &mut Columns) -> OpenAnswer {
     }
 }
 
-/// Grounds 1 to 7 in checking order.
-fn check_sheet(sheet: &[u8], c: &Columns) -> Result<Layout, u32> {
+/// Grounds 1 to 7 in checking order, then 16.
+fn check_sheet(sheet: &[u8], c: &Columns, outlets: &[Outlet]) -> Result<Layout, u32> {
     ground(1, sheet.len() >= HEADER && u32_at(sheet, 0) == EDITION)?;
 
     let n = u32_at(sheet, 8) as usize;
@@ -99,6 +102,7 @@ fn check_sheet(sheet: &[u8], c: &Columns) -> Result<Layout, u32> {
         values_sound(z, h, q, m, h)
     };
     ground(7, (0..n).all(sound))?;
+    ground(16, list_sound(outlets, n))?;
     Ok(Layout {
         n,
         x,
@@ -148,8 +152,15 @@ fn u64_at(sheet: &[u8], at: usize) -> u64 {
 }
 
 /// Writes the sheet of a settled record; bytes after the sheet keep their values.
-pub fn write(c: &Columns, x: u64, ends: [End; 2], book: Book, out: &mut [u8]) -> WriteAnswer {
-    let refusal = match check_write(c, x, &ends, &book, out.len()) {
+pub fn write(
+    c: &Columns,
+    outlets: &[Outlet],
+    x: u64,
+    ends: [End; 2],
+    book: Book,
+    out: &mut [u8],
+) -> WriteAnswer {
+    let refusal = match check_write(c, outlets, x, &ends, &book, out.len()) {
         Ok(n) => {
             fill_sheet(c, x, &ends, n, out);
             0
@@ -165,13 +176,15 @@ pub fn write(c: &Columns, x: u64, ends: [End; 2], book: Book, out: &mut [u8]) ->
 
 fn check_write(
     c: &Columns,
+    outlets: &[Outlet],
     x: u64,
     ends: &[End; 2],
     book: &Book,
     room: usize,
 ) -> Result<usize, u32> {
-    let n = check(c, x, ends, &[], book)?;
+    let n = check(c, outlets, x, ends, &[], book)?;
     ground(14, c.carried.iter().all(|&w| w == 0))?;
+    ground(14, outlets.iter().all(|o| o.drawn == 0))?;
     ground(15, room >= sheet_length(n))?;
     Ok(n)
 }

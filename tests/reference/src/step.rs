@@ -1,10 +1,11 @@
 //! A water step ("A water step"); grounds 10 to 13 are found before anything is written.
 
 use crate::flux::{interface, Crossing, Water};
+use crate::outlet::{drawn_at, drawn_by_cell, draws, totals_sound, Outlet};
 use crate::record::{
     check, ground, outflow, Book, Columns, End, Totals, DEEPEST, FASTEST, FED, WALL,
 };
-use crate::settling::{end_nutrient, move_shares};
+use crate::settling::{end_nutrient, move_shares, settled_list};
 
 pub const MOST_T: u64 = 1_000;
 
@@ -20,18 +21,29 @@ pub struct StepAnswer {
 /// What an accepted step is about to do.
 struct Plan {
     crossings: Vec<Crossing>,
+    /// what the outlets of each cell draw
+    drawing: Vec<u64>,
     settles: bool,
     book: Book,
+    outlets: Vec<Outlet>,
 }
 
 /// One water step of t ms.
-pub fn step(c: &mut Columns, x: u64, ends: [End; 2], book: Book, t: u64) -> StepAnswer {
-    match plan(c, x, &ends, &book, t) {
+pub fn step(
+    c: &mut Columns,
+    outlets: &mut [Outlet],
+    x: u64,
+    ends: [End; 2],
+    book: Book,
+    t: u64,
+) -> StepAnswer {
+    match plan(c, outlets, x, &ends, &book, t) {
         Ok(plan) => {
             if plan.settles {
-                move_shares(c, &ends);
+                move_shares(c, outlets, &ends);
             }
-            carry_out(c, &plan.crossings);
+            carry_out(c, &plan.crossings, &plan.drawing);
+            outlets.copy_from_slice(&plan.outlets);
             StepAnswer {
                 refusal: 0,
                 ends,
@@ -48,27 +60,32 @@ pub fn step(c: &mut Columns, x: u64, ends: [End; 2], book: Book, t: u64) -> Step
     }
 }
 
-fn plan(c: &Columns, x: u64, ends: &[End; 2], book: &Book, t: u64) -> Result<Plan, u32> {
-    let n = check(c, x, ends, &[], book)?;
+fn plan(
+    c: &Columns,
+    outlets: &[Outlet],
+    x: u64,
+    ends: &[End; 2],
+    book: &Book,
+    t: u64,
+) -> Result<Plan, u32> {
+    let n = check(c, outlets, x, ends, &[], book)?;
     ground(10, (1..=MOST_T).contains(&t))?;
 
     let cells = cell_waters(c);
-    let beyond = [
-        end_water(&ends[0], cells[0]),
-        end_water(&ends[1], cells[n - 1]),
-    ];
+    let beyond = end_waters(ends, &cells);
     // "CFL: t·(|u|+a) ≤ 1,000·X for each cell and each fed end"; a mirror or a copy has its
     // cell's |u|+a, so both ends may be looked at whatever their kind
     let slow = |w: &Water| t * w.reach() <= 1_000 * x;
     ground(11, cells.iter().all(slow) && beyond.iter().all(slow))?;
 
     let crossings = crossings(&cells, &beyond, t, x);
-    ground(
-        12,
-        (0..n).all(|i| new_depth(c, &crossings, i) <= DEEPEST as i64),
-    )?;
+    let draws = draws(outlets, |i| can_give(c, &crossings, i));
+    let drawing = drawn_by_cell(outlets, &draws, n);
+    // "Drawing precedes [...] the depth check."
+    let depth = |i: usize| new_depth(c, &crossings, &drawing, i);
+    ground(12, (0..n).all(|i| depth(i) <= DEEPEST as i64))?;
 
-    let settles = !keeps_sums(c, &crossings);
+    let settles = !keeps_sums(c, outlets, &crossings, &drawing);
     let mut gains = end_water_gains(crossings[0].water, crossings[n].water);
     if settles {
         let nutrient = end_nutrient(c, ends);
@@ -78,11 +95,28 @@ fn plan(c: &Columns, x: u64, ends: &[End; 2], book: &Book, t: u64) -> Result<Pla
         gains.right.nutrient_out = nutrient.right.nutrient_out;
     }
     let book = book.gain(&gains)?;
+    let outlets = list_after(c, outlets, &draws, settles);
+    ground(13, totals_sound(&outlets))?;
     Ok(Plan {
         crossings,
+        drawing,
         settles,
         book,
+        outlets,
     })
+}
+
+/// The list after a step that gave each outlet what it draws. "An outlet's water goes into its
+/// total at each step, its nutrient at the settling."
+fn list_after(c: &Columns, outlets: &[Outlet], draws: &[u64], settles: bool) -> Vec<Outlet> {
+    let old = if settles {
+        settled_list(c, outlets)
+    } else {
+        outlets.to_vec()
+    };
+    (old.iter().zip(draws))
+        .map(|(outlet, &given)| outlet.having(given))
+        .collect()
 }
 
 /// Speed and wave speed of each cell, found once.
@@ -105,6 +139,13 @@ fn end_water(end: &End, cell: Water) -> Water {
     }
 }
 
+fn end_waters(ends: &[End; 2], cells: &[Water]) -> [Water; 2] {
+    [
+        end_water(&ends[0], cells[0]),
+        end_water(&ends[1], cells[cells.len() - 1]),
+    ]
+}
+
 /// N, P and S at interfaces 0..n, interface i left of cell i.
 fn crossings(cells: &[Water], beyond: &[Water; 2], t: u64, x: u64) -> Vec<Crossing> {
     let mut found = Vec::with_capacity(cells.len() + 1);
@@ -116,16 +157,34 @@ fn crossings(cells: &[Water], beyond: &[Water; 2], t: u64, x: u64) -> Vec<Crossi
     found
 }
 
-/// "h' = h + N(left) − N(right)"
+/// What each cell of a sound record can give in a step of t that meets CFL.
+pub fn available(c: &Columns, x: u64, ends: &[End; 2], t: u64) -> Vec<u64> {
+    let cells = cell_waters(c);
+    let crossings = crossings(&cells, &end_waters(ends, &cells), t, x);
+    (0..cells.len())
+        .map(|i| can_give(c, &crossings, i))
+        .collect()
+}
+
+/// "What a cell can give is its old depth less its own two outgoing W." Towards a wall too: there
+/// W of the mirror makes N 0, not the cell's own W. CFL keeps both W together within h.
+fn can_give(c: &Columns, crossings: &[Crossing], i: usize) -> u64 {
+    // the cell is the right side of its left interface
+    c.depth[i] - crossings[i].from_right - crossings[i + 1].from_left
+}
+
+/// "h' = h + N(left) − N(right)", less what the cell's outlets draw
 #[inline]
-fn new_depth(c: &Columns, crossings: &[Crossing], i: usize) -> i64 {
-    c.depth[i] as i64 + crossings[i].water - crossings[i + 1].water
+fn new_depth(c: &Columns, crossings: &[Crossing], drawing: &[u64], i: usize) -> i64 {
+    c.depth[i] as i64 + crossings[i].water - crossings[i + 1].water - drawing[i] as i64
 }
 
 /// "add N to c. If max(c(i+1),0) + max(−c(i),0) ≤ b in each cell, keep the sums."
-fn keeps_sums(c: &Columns, crossings: &[Crossing]) -> bool {
+/// "Drawn water counts as outflow in the settling test", this step's with the old.
+fn keeps_sums(c: &Columns, outlets: &[Outlet], crossings: &[Crossing], drawing: &[u64]) -> bool {
     let sum = |i: usize| c.carried[i] + crossings[i].water;
-    (0..c.base.len()).all(|i| outflow(sum(i), sum(i + 1)) <= c.base[i])
+    let drawn = |i: usize| drawn_at(outlets, i) as u64 + drawing[i];
+    (0..c.base.len()).all(|i| outflow(sum(i), sum(i + 1)) + drawn(i) <= c.base[i])
 }
 
 /// "End water goes into the book at each step, by the sign of N."
@@ -145,17 +204,17 @@ fn end_water_gains(left: i64, right: i64) -> Book {
 }
 
 /// Writes h', q' and the carried water. After a settling c is 0, so adding N makes it N.
-fn carry_out(c: &mut Columns, crossings: &[Crossing]) {
+fn carry_out(c: &mut Columns, crossings: &[Crossing], drawing: &[u64]) {
     for i in 0..c.depth.len() {
         let (left, right) = (&crossings[i], &crossings[i + 1]);
-        let depth = new_depth(c, crossings, i);
+        let depth = new_depth(c, crossings, drawing, i);
         // "q' = q + P(left) − P(right) + S(own h* at the right) − S(own h* at the left)":
         // the cell is the left side of its right interface
         let pushed = c.discharge[i] + left.push - right.push + right.still_left - left.still_right;
         // "then moved to the nearest value in ±8,000·h'"
         let most = FASTEST as i64 * depth;
         c.discharge[i] = pushed.clamp(-most, most);
-        // CFL keeps both outflows together within h, so h' ≥ 0
+        // CFL keeps both outflows together within h and outlets draw what they leave, so h' ≥ 0
         c.depth[i] = depth as u64;
     }
     for (carried, crossing) in c.carried.iter_mut().zip(crossings) {

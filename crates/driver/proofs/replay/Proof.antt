@@ -31,7 +31,7 @@ same-length-6 c = search needs
 returns : tie.Need-returns
 returns c =
     let a = c .before .before .before .before .before .before .before .before .before .before .before .before .before .before .before .before .before .before .before .before .before .before .before .before .before .before .before .args in
-    replay-stops (now (a .sheet)) (now (a .words)) (now (a .sheets)) (lent (now (a .bed)) (now (a .depth)) (now (a .discharge)) (now (a .mass)) (now (a .base)) (now (a .carried))) (now (a .out)) (now (a .answers)) (c .before .before .before .before .before .before .before .before .before .before .before .before .open-sheet .ensures) (c .if1 .taken)
+    replay-stops (now (a .sheet)) (now (a .words)) (now (a .sheets)) (lent (now (a .bed)) (now (a .depth)) (now (a .discharge)) (now (a .mass)) (now (a .base)) (now (a .carried)) (a .outlets)) (now (a .out)) (now (a .answers)) (c .before .before .before .before .before .before .before .before .before .before .before .before .open-sheet .ensures) (c .if1 .taken)
 
 resume-requires : tie.Need-resume-requires
 resume-requires c κs = search needs
@@ -64,7 +64,7 @@ returns-2 : tie.Need-returns-2
 returns-2 c =
     let a = c .before .before .before .before .before .before .before .before .before .before .before .before .before .before .before .before .before .before .before .before .before .before .before .before .before .before .before .before .before .before .before .before .before .before .before .before .before .before .before .before .before .before .before .before .before .before .before .before .before .args in
     let p = c .before .before .before .before .before .before .before .before .before .before .before .before .before .resume in
-    replay-goes (now (a .sheet)) (now (a .words)) (now (a .sheets)) (lent (now (a .bed)) (now (a .depth)) (now (a .discharge)) (now (a .mass)) (now (a .base)) (now (a .carried))) (now (a .out)) (now (a .answers)) (c .before .before .before .before .before .before .before .before .before .before .before .before .before .before .before .before .before .before .before .before .before .before .before .before .before .before .before .before .before .before .before .before .before .before .open-sheet .ensures) (p .result) (c .before .before .before .before .before .before .before .before .before .before .before .before .before .before .before .before .before .before .before .before .before .before .if1 .left) (p .ensures .1) (p .ensures .0)
+    replay-goes (now (a .sheet)) (now (a .words)) (now (a .sheets)) (lent (now (a .bed)) (now (a .depth)) (now (a .discharge)) (now (a .mass)) (now (a .base)) (now (a .carried)) (a .outlets)) (now (a .out)) (now (a .answers)) (c .before .before .before .before .before .before .before .before .before .before .before .before .before .before .before .before .before .before .before .before .before .before .before .before .before .before .before .before .before .before .before .before .before .before .open-sheet .ensures) (p .result) (c .before .before .before .before .before .before .before .before .before .before .before .before .before .before .before .before .before .before .before .before .before .before .if1 .left) (p .ensures .1) (p .ensures .0)
 
 pub replay-spec : {M : Type 1} → statement M
 replay-spec =

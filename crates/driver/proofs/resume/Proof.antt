@@ -13,7 +13,7 @@ use Rattle.driver.proofs.resume.Tie as tie
 
 abbrev Inv-loop : tie.InvT-loop
 Inv-loop words sheets z₀ h₀ q₀ m₀ b₀ c₀ x out₀ answers₀ n X₀ held₀ j₀ z h q m b c out answers X held j =
-    (n ≡ length words / 13)
+    (n ≡ length words / 206)
     × (j ≤ n)
     × (playedOn words sheets (length out₀) n j (world (reachOf z h q m b c X held) out answers) ≡ playedFrom (world (reachOf z₀ h₀ q₀ m₀ b₀ c₀ X₀ held₀) out₀ answers₀) 0 (script words sheets (length out₀)))
     × (length z ≡ length z₀)
@@ -43,11 +43,11 @@ loop-holds c =
     (refl, omega arith, played-first (now (a .words)) (now (a .sheets)) (length (now (a .out))) _, refl, refl, refl, refl, refl, refl, refl, refl)
 
 -- there are words for call j
-room-for : (c : tie.In-loop Inv-loop μ-loop) → 13 * (c .before .loop .j) + 13 ≤ length (now (start (c .before) .args .words))
+room-for : (c : tie.In-loop Inv-loop μ-loop) → 206 * (c .before .loop .j) + 206 ≤ length (now (start (c .before) .args .words))
 room-for c = let e = c .before .loop .inv .0 in let l = c .loop-test .taken in omega (arith, e, l)
 
 -- and no more than fit in memory
-few : (c : tie.In-loop Inv-loop μ-loop) → 13 * (c .before .loop .j) + 13 ≤ 2_305_843_009_213_693_952
+few : (c : tie.In-loop Inv-loop μ-loop) → 206 * (c .before .loop .j) + 206 ≤ 2_305_843_009_213_693_952
 few c = let e = room-for c in let g = start (c .before) .good .0 .0 in omega (arith, e, g)
 
 mul-play-call : tie.Need-mul-play-call Inv-loop μ-loop
@@ -75,7 +75,7 @@ loop-again c =
     let i = l .inv in (
       i .0,
       omega (arith, t),
-      played-on (now (a .words)) (now (a .sheets)) (length (now (a .out))) _ (l .j) (reach k) (l .out) (l .answers) {r = p .result} t (λ f. rw (i .9) at (p .ensures f)) (c .before .before .before .note .ensures) ∙ i .2,
+      played-on (now (a .words)) (now (a .sheets)) (length (now (a .out))) _ (l .j) (reach k) (l .out) (l .answers) {r = p .result} t (rw (i .9) at (p .ensures)) (c .before .before .before .note .ensures) ∙ i .2,
       p .kept .1 .1 .1 .0 ∙ i .3,
       p .kept .1 .1 .1 .1 .0 ∙ i .4,
       p .kept .1 .1 .1 .1 .1 .0 ∙ i .5,

@@ -1,10 +1,27 @@
--- `jemmyfern_c::jemmyfern_set_boundaries` meets its contract: what the setting it passes on ensures. Assumes nothing.
+mod Lts
+mod Tie
 use borrow.Author.Needs.{needs}
+use Rattle.jemmyfern_c.proofs.Returns.{setting-returns}
 use Rattle.jemmyfern_c.proofs.jemmyfern_set_boundaries.Statement.{statement}
-use Rattle.jemmyfern_c.proofs.jemmyfern_set_boundaries.Tie as tie
+use Rattle.jemmyfern_c.proofs.jemmyfern_set_boundaries.Proof.Tie as tie
+
+load-requires : tie.Need-load-requires
+load-requires c κs = search needs
+
+given-held-requires : tie.Need-given-held-requires
+given-held-requires c κs = search needs
 
 set-boundaries-requires : tie.Need-set-boundaries-requires
 set-boundaries-requires c κs = search needs
+
+room-of-requires : tie.Need-room-of-requires
+room-of-requires c κs = search needs
+
+store-requires : tie.Need-store-requires
+store-requires c κs = search needs
+
+transport-answer-requires : tie.Need-transport-answer-requires
+transport-answer-requires c κs = search needs
 
 same-length : tie.Need-same-length
 same-length c = search needs
@@ -15,9 +32,28 @@ same-length-2 c = search needs
 same-length-3 : tie.Need-same-length-3
 same-length-3 c = search needs
 
+same-length-4 : tie.Need-same-length-4
+same-length-4 c = search needs
+
 returns : tie.Need-returns
-returns c = c .before .before .before .before .before .set-boundaries .ensures
+returns c =
+    let roomed = c .before .before .before .before in
+    let called = roomed .before .before .before .before .before .before in
+    let holding = called .before .before .before .before .before in
+    setting-returns _ _ _ _ _ _ _ _ _ _ _ _ _ _ _ _ _ _ _ _ (holding .before .load .ensures) (holding .given-held .ensures) (called .set-boundaries .ensures) (roomed .room-of .ensures) (c .before .before .store .ensures) (c .transport-answer .ensures)
 
 pub jemmyfern-set-boundaries-spec : {M : Type 1} → statement M
 jemmyfern-set-boundaries-spec =
-    tie.close (tie.spec set-boundaries-requires same-length same-length-2 same-length-3 returns)
+    tie.close
+    (tie.spec
+    load-requires
+    given-held-requires
+    set-boundaries-requires
+    room-of-requires
+    store-requires
+    transport-answer-requires
+    same-length
+    same-length-2
+    same-length-3
+    same-length-4
+    returns)

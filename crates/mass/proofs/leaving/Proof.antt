@@ -9,8 +9,9 @@ use lib.ListN.{getD}
 use mir.Facts.{toZ-ofZ}
 use borrow.Author.Needs.{sfits-of}
 use Rattle.numbers.specs.Shares.{shares}
-use Rattle.reach.specs.Parts.{parts, rightOf, leftOf}
-use Rattle.reach.proofs.PartsLaws.{outflow-is}
+use Rattle.reach.specs.Parts.{parts, rightOf, leftOf, outletOf}
+use Rattle.reach.specs.Ranges.{alone}
+use Rattle.reach.proofs.PartsLaws.{outflow-is, sum-single}
 use Rattle.mass.specs.Transport.{MassColumns, massColumns, cellShares}
 use Rattle.mass.proofs.TransportLaws.{waterRightwards, waterLeftwards, leftwards-cell, leftwards-end}
 use borrow.Author.Needs.{needs}
@@ -18,10 +19,10 @@ use Rattle.mass.proofs.leaving.Statement.{statement}
 use Rattle.mass.proofs.leaving.Tie as tie
 
 abbrev entry : tie.After-left-part → tie.Start
-entry c = c .before .before .before .before .before .before .before .before .before
+entry c = c .before .before .before .before .before .before .before .before .before .before
 
 abbrev col : tie.Start → MassColumns
-col s = massColumns (now (s .args .mass)) (now (s .args .base)) (now (s .args .carried)) 0 (s .args .right-in)
+col s = massColumns (now (s .args .mass)) (now (s .args .base)) (now (s .args .carried)) (alone (now (s .args .drawn))) 0 (s .args .right-in)
 
 right-is : (c : tie.After-left-part) → c .before .before .right-part .result ≡ waterRightwards (col (entry c)) (entry c .args .i + 1)
 right-is c = rw (toZ-ofZ (sfits-of (c .before .before .before .right-part-arg .given))) at (c .before .before .right-part .ensures)
@@ -62,35 +63,43 @@ shared-slice-copy-out-left-part c = search needs
 left-part-requires : tie.Need-left-part-requires
 left-part-requires c κs = search needs
 
+mul-shares-of-3 : tie.Need-mul-shares-of-3
+mul-shares-of-3 c = search needs
+
+shared-slice-read-shares-of-3 : tie.Need-shared-slice-read-shares-of-3
+shared-slice-read-shares-of-3 c = search needs
+
 shares-of-requires : tie.Need-shares-of-requires
 shares-of-requires c κs =
-    let s = entry c in
-    let g = s .pre .0 .giving (c .before .before .before .before .before .before .if1 .taken) in
+    let b = c .before in
+    let s = entry b in
+    let g = s .pre .0 .giving (b .before .before .before .before .before .before .if1 .taken) in
     let carried : ℕ → ℤ = λ i. getD (col s .carried) i (pos 0) in
-    let e = outflow-is (carried (s .args .i)) (carried (s .args .i + 1)) in
-    record { deep = g .deep; rich = g .rich; covered = omega (arith, right-is c, left-is c, e, g .covered) }
+    let d = getD (now (s .args .drawn)) (s .args .i) 0 in
+    let e = outflow-is (carried (s .args .i)) (carried (s .args .i + 1)) (d ∷ []) in
+    record { deep = g .deep; rich = g .rich; covered = omega (arith, right-is b, left-is b, e, sum-single d, g .covered) }
 
 shares-are : (c : tie.After-shares-of) →
-    c .shares-of .result .right ∷ c .shares-of .result .left ∷ [] ≡ cellShares (col (entry (c .before))) (entry (c .before) .args .i)
+    c .shares-of .result .right ∷ c .shares-of .result .left ∷ c .shares-of .result .drawn ∷ [] ≡ cellShares (col (entry (c .before .before))) (entry (c .before .before) .args .i)
 unfolding cellShares parts
 shares-are c =
-    let s = entry (c .before) in
+    let s = entry (c .before .before) in
     let x = col s in
     let i = s .args .i in
-    c .shares-of .ensures ∙ ap₂ (λ (r l : ℕ). shares (getD (x .mass) i 0) (getD (x .base) i 0) 0 (r ∷ l ∷ [])) (right-is (c .before)) (left-is (c .before))
+    c .shares-of .ensures ∙ ap₂ (λ (r l : ℕ). shares (getD (x .mass) i 0) (getD (x .base) i 0) 0 (r ∷ l ∷ getD (now (s .args .drawn)) i 0 ∷ [])) (right-is (c .before .before)) (left-is (c .before .before))
 
 returns : tie.Need-returns
 returns c =
-    let b = c .before in
+    let b = c .before .before in
     let s = entry b in
     let l = b .before .before .before .before .before .before .if1 .taken in
-    (ap leftOf (shares-are c) ∙ sym (leftwards-cell (col s) (s .args .i) l), λ _. ap rightOf (shares-are c))
+    (ap leftOf (shares-are c) ∙ sym (leftwards-cell (col s) (s .args .i) l), (λ _. ap rightOf (shares-are c), λ _. ap (outletOf 0) (shares-are c)))
 
 returns-2 : tie.Need-returns-2
 returns-2 c =
-    let s = c .before .before .before in (
+    let s = c .before .before .before .before in (
       sym (leftwards-end (col s) (s .args .i) (c .if1 .left)),
-      λ l. absurd (omega (arith, l, c .if1 .left)),
+      (λ l. absurd (omega (arith, l, c .if1 .left)), λ l. absurd (omega (arith, l, c .if1 .left))),
     )
 
 pub leaving-spec : {M : Type 1} → statement M
@@ -108,6 +117,8 @@ leaving-spec =
     mul-left-part
     shared-slice-copy-out-left-part
     left-part-requires
+    mul-shares-of-3
+    shared-slice-read-shares-of-3
     shares-of-requires
     returns
     returns-2)

@@ -10,7 +10,9 @@ use Rattle.reach.specs.Reach.{Reach, reachOf}
 use Rattle.reach.specs.Outcome.{Outcome}
 use Rattle.reach.proofs.GroundsLaws.{passed, refused-by}
 use Rattle.transport.specs.Calls.{transport}
-use Rattle.sheet.specs.Opening.{lent, opening}
+use Rattle.outlet.specs.Outlets.{noOutlets}
+use Rattle.outlet.specs.declared.Outlets.{Outlets}
+use Rattle.sheet.specs.Opening.{lent, opening, OpenCameTo}
 use Rattle.play.specs.Play.{steps, countFits, played}
 use Rattle.play.specs.Ranges.{PlayedTo}
 use Rattle.sheet.proofs.OpeningLaws.{left-by-opening}
@@ -23,10 +25,10 @@ abbrev sheet : tie.Start → List ℕ
 sheet s = now (s .args .s)
 
 abbrev columns : tie.Start → Reach
-columns s = lent (now (s .args .bed)) (now (s .args .depth)) (now (s .args .discharge)) (now (s .args .mass)) (now (s .args .base)) (now (s .args .carried))
+columns s = lent (now (s .args .bed)) (now (s .args .depth)) (now (s .args .discharge)) (now (s .args .mass)) (now (s .args .base)) (now (s .args .carried)) noOutlets
 
 abbrev entry : tie.After-open-sheet → tie.Start
-entry c = c .before .before .before .before .before .before .before .before .before .before .before
+entry c = c .before .before .before .before .before .before .before .before .before .before .before .before
 
 -- back to the opening: from where it was accepted, and from behind the steps
 abbrev opening-of : tie.Else1 → tie.After-open-sheet
@@ -48,8 +50,20 @@ all-steps c = c .before .before .before .before .before .before .before .before 
 abbrev opened : tie.After-open-sheet → Outcome
 opened c = opening (sheet (entry c)) (columns (entry c))
 
+-- the opening was lent an empty list
+opened-to : (c : tie.After-open-sheet) →
+    let l = c .open-sheet .last in
+    OpenCameTo (opened c) (c .open-sheet .result) (l .1 .0) (l .1 .1 .0) (l .1 .1 .1 .0) (l .1 .1 .1 .1 .0) (l .1 .1 .1 .1 .1 .0) (l .1 .1 .1 .1 .1 .1 .0)
+opened-to c =
+    let l = c .open-sheet .last in
+    let a = entry c .args in
+    subst
+    (λ (os : Outlets). OpenCameTo (opening (sheet (entry c)) (lent (now (a .bed)) (now (a .depth)) (now (a .discharge)) (now (a .mass)) (now (a .base)) (now (a .carried)) os)) (c .open-sheet .result) (l .1 .0) (l .1 .1 .0) (l .1 .1 .1 .0) (l .1 .1 .1 .1 .0) (l .1 .1 .1 .1 .1 .0) (l .1 .1 .1 .1 .1 .1 .0))
+    (c .before .before .before .before .before .before .before .no-outlets .ensures)
+    (c .open-sheet .ensures)
+
 accepted : (c : tie.Else1) → opened (opening-of c) .refusal ≡ 0
-accepted c = sym (opening-of c .open-sheet .ensures .refusal-is) ∙ c .if1 .left
+accepted c = sym (opened-to (opening-of c) .refusal-is) ∙ c .if1 .left
 
 few : (c : tie.After-enum-told) → countFits (entry (opening-of (c .before .before .before)) .args .count) ≡ true
 few c = passed 10 _ _ (c .before .before .check-count .ensures) (c .enum-told .given .1)
@@ -63,7 +77,10 @@ from-opening : (c : tie.After-run-steps) →
     let a = entry (from-steps c) .args in
     steps (a .count) (a .t) (reachOf (w .last .1 .0) (w .last .1 .1 .0) (w .last .1 .1 .1 .0) (w .last .1 .1 .1 .1 .0) (w .last .1 .1 .1 .1 .1 .0) (w .last .1 .1 .1 .1 .1 .1 .0) (w .result .«cell_length») (w .result .held))
     ≡ run c
-from-opening c = let a = entry (from-steps c) .args in ap (steps (a .count) (a .t)) (left-by-opening (from-steps c .open-sheet .ensures))
+from-opening c = let a = entry (from-steps c) .args in ap (steps (a .count) (a .t)) (left-by-opening (opened-to (from-steps c)))
+
+no-outlets-requires : tie.Need-no-outlets-requires
+no-outlets-requires c κs = search needs
 
 open-sheet-requires : tie.Need-open-sheet-requires
 open-sheet-requires c κs = search needs
@@ -93,9 +110,9 @@ returns : tie.Need-returns
 returns c =
     let w = c .before .before .before .before .before .before .before .before .before .before .before .before .before in
     let s = entry w in
-    let n : opened w .refusal ≡ 0 → ⊥ = λ z. c .before .if1 .taken (w .open-sheet .ensures .refusal-is ∙ z) in
+    let n : opened w .refusal ≡ 0 → ⊥ = λ z. c .before .if1 .taken (opened-to w .refusal-is ∙ z) in
     rw (not-opened (sheet s) (columns s) (s .args .count) (s .args .t) n)
-    (left _ _ _ _ _ _ _ (c .came-to .ensures .0 ∙ w .open-sheet .ensures .refusal-is) (c .came-to .ensures .1) (left-by-opening (w .open-sheet .ensures)))
+    (left _ _ _ _ _ _ _ (c .came-to .ensures .0 ∙ opened-to w .refusal-is) (c .came-to .ensures .1) (left-by-opening (opened-to w)))
 
 check-count-requires : tie.Need-check-count-requires
 check-count-requires c κs = search needs
@@ -134,7 +151,7 @@ returns-2 c =
     let s = entry w in
     let f = refused-by 10 _ _ _ (c .before .before .before .check-count .ensures) (c .before .enum-told2 .given .1) in
     rw (too-many (sheet s) (columns s) (s .args .count) (s .args .t) (accepted a) f)
-    (left _ _ _ _ _ _ _ (c .came-to2 .ensures .0) (c .came-to2 .ensures .1) (left-by-opening (w .open-sheet .ensures)))
+    (left _ _ _ _ _ _ _ (c .came-to2 .ensures .0) (c .came-to2 .ensures .1) (left-by-opening (opened-to w)))
 
 run-steps-requires : tie.Need-run-steps-requires
 run-steps-requires c κs = search needs
@@ -208,6 +225,7 @@ pub play-spec : {M : Type 1} → statement M
 play-spec =
     tie.close
     (tie.spec
+    no-outlets-requires
     open-sheet-requires
     came-to-requires
     same-length

@@ -9,7 +9,7 @@ use lib.ListN.{getD, drop}
 use Rattle.reach.specs.Reach.{reachOf}
 use Rattle.reach.specs.Grounds.{Ground, ground, firstRefusal, recordGrounds}
 use Rattle.reach.proofs.GroundsLaws.{passed, refused-by, go-on, stop-at, last-one}
-use Rattle.reach.proofs.Sound.{lengths-sound, cells-sound}
+use Rattle.reach.proofs.Sound.{lengths-sound, cells-sound, outlets-few}
 use borrow.Author.Needs.{needs}
 use Rattle.reach.proofs.check_record.Statement.{statement}
 use Rattle.reach.proofs.check_record.Tie as tie
@@ -43,7 +43,10 @@ given c = c .before .before .before
 abbrev seven : tie.After-enum-told9 → tie.After-enum-told7
 seven c = c .before .before .before
 
-abbrev eight : tie.After-enum-told11 → tie.After-enum-told9
+abbrev sixteen : tie.After-enum-told11 → tie.After-enum-told9
+sixteen c = c .before .before .before .before
+
+abbrev eight : tie.After-enum-told13 → tie.After-enum-told11
 eight c = c .before .before .before
 
 lengths-fit : (c : tie.After-enum-told) → Stands 0 (four c)
@@ -73,10 +76,16 @@ cells-fit c = passed 7 _ _ (c .before .before .check-cells .ensures) (c .enum-to
 after-cells : (c : tie.After-enum-told9) → Rest 5 (four (five (held (given (seven c)))))
 after-cells c = after-given (seven c) ∙ go-on _ _ (cells-fit c) refl
 
-after-carried : (c : tie.After-enum-told11) → Rest 6 (four (five (held (given (seven (eight c))))))
+outlets-fit : (c : tie.After-enum-told11) → Stands 5 (four (five (held (given (seven (sixteen c))))))
+outlets-fit c = passed 16 _ _ (c .before .before .check-outlets .ensures) (c .enum-told11 .given .1)
+
+after-outlets : (c : tie.After-enum-told11) → Rest 6 (four (five (held (given (seven (sixteen c))))))
+after-outlets c = after-cells (sixteen c) ∙ go-on _ _ (outlets-fit c) refl
+
+after-carried : (c : tie.After-enum-told13) → Rest 7 (four (five (held (given (seven (sixteen (eight c)))))))
 after-carried c =
-    after-cells (eight c)
-    ∙ go-on _ _ (passed 8 _ _ (c .before .before .check-carried .ensures) (c .enum-told11 .given .1)) refl
+    after-outlets (eight c)
+    ∙ go-on _ _ (passed 8 _ _ (c .before .before .check-carried .ensures) (c .enum-told13 .given .1)) refl
 
 check-lengths-requires : tie.Need-check-lengths-requires
 check-lengths-requires c κs = search needs
@@ -144,23 +153,8 @@ returns-5 : tie.Need-returns-5
 returns-5 c =
     sym (after-given (c .before .before .before) ∙ stop-at _ _ (refused-by 7 _ _ _ (c .before .before .check-cells .ensures) (c .enum-told10 .given .1)))
 
-element-copy-out-check-carried : tie.Need-element-copy-out-check-carried
-element-copy-out-check-carried c = search needs
-
-element-copy-out-check-carried-2 : tie.Need-element-copy-out-check-carried-2
-element-copy-out-check-carried-2 c = search needs
-
-check-carried-requires : tie.Need-check-carried-requires
-check-carried-requires c κs =
-    let n = lengths-sound _ _ _ _ _ _ (lengths-fit (five (held (given (seven c))))) in
-    let cell = cells-sound _ _ _ _ _ (cells-fit c) in
-    record {
-      some = omega arith;
-      bases = omega arith;
-      interfaces = omega arith;
-      deep = λ i l. cell i (omega arith) .depth;
-      base = λ i l. cell i (omega arith) .base;
-    }
+check-outlets-requires : tie.Need-check-outlets-requires
+check-outlets-requires c κs = search needs
 
 enum-told-11 : tie.Need-enum-told-11
 enum-told-11 c = search needs
@@ -170,10 +164,28 @@ enum-told-12 c = search needs
 
 returns-6 : tie.Need-returns-6
 returns-6 c =
-    sym (after-cells (c .before .before .before) ∙ stop-at _ _ (refused-by 8 _ _ _ (c .before .before .check-carried .ensures) (c .enum-told12 .given .1)))
+    sym (after-cells (c .before .before .before .before) ∙ stop-at _ _ (refused-by 16 _ _ _ (c .before .before .check-outlets .ensures) (c .enum-told12 .given .1)))
 
-check-ledger-requires : tie.Need-check-ledger-requires
-check-ledger-requires c κs = search needs
+element-copy-out-check-carried : tie.Need-element-copy-out-check-carried
+element-copy-out-check-carried c = search needs
+
+element-copy-out-check-carried-2 : tie.Need-element-copy-out-check-carried-2
+element-copy-out-check-carried-2 c = search needs
+
+check-carried-requires : tie.Need-check-carried-requires
+check-carried-requires c κs =
+    let n = lengths-sound _ _ _ _ _ _ (lengths-fit (five (held (given (seven (sixteen c)))))) in
+    let cell = cells-sound _ _ _ _ _ (cells-fit (sixteen c)) in (
+      record {
+        some = omega arith;
+        few = omega arith;
+        bases = omega arith;
+        interfaces = omega arith;
+        deep = λ i l. cell i (omega arith) .depth;
+        base = λ i l. cell i (omega arith) .base;
+      },
+      rw (n .depths) (outlets-fit c),
+    )
 
 enum-told-13 : tie.Need-enum-told-13
 enum-told-13 c = search needs
@@ -183,11 +195,24 @@ enum-told-14 c = search needs
 
 returns-7 : tie.Need-returns-7
 returns-7 c =
-    sym (after-carried (c .before .before .before .before) ∙ stop-at _ _ (refused-by 9 _ _ _ (c .before .before .check-ledger .ensures) (c .enum-told14 .given .1)))
+    sym (after-outlets (c .before .before .before) ∙ stop-at _ _ (refused-by 8 _ _ _ (c .before .before .check-carried .ensures) (c .enum-told14 .given .1)))
+
+check-totals-requires : tie.Need-check-totals-requires
+check-totals-requires c κs = outlets-few _ _ (outlets-fit (eight c))
+
+enum-told-15 : tie.Need-enum-told-15
+enum-told-15 c = search needs
+
+enum-told-16 : tie.Need-enum-told-16
+enum-told-16 c = search needs
 
 returns-8 : tie.Need-returns-8
 returns-8 c =
-    sym (c .enum-told13 .given .1) ∙ c .before .before .check-ledger .ensures ∙ sym (after-carried (c .before .before .before .before) ∙ last-one 9 _)
+    sym (after-carried (c .before .before .before) ∙ stop-at _ _ (refused-by 9 _ _ _ (c .before .before .check-totals .ensures) (c .enum-told16 .given .1)))
+
+returns-9 : tie.Need-returns-9
+returns-9 c =
+    sym (c .enum-told15 .given .1) ∙ c .before .before .check-totals .ensures ∙ sym (after-carried (c .before .before .before) ∙ last-one 9 _)
 
 pub check-record-spec : {M : Type 1} → statement M
 check-record-spec =
@@ -213,14 +238,18 @@ check-record-spec =
     enum-told-9
     enum-told-10
     returns-5
-    element-copy-out-check-carried
-    element-copy-out-check-carried-2
-    check-carried-requires
+    check-outlets-requires
     enum-told-11
     enum-told-12
     returns-6
-    check-ledger-requires
+    element-copy-out-check-carried
+    element-copy-out-check-carried-2
+    check-carried-requires
     enum-told-13
     enum-told-14
     returns-7
-    returns-8)
+    check-totals-requires
+    enum-told-15
+    enum-told-16
+    returns-8
+    returns-9)

@@ -7,7 +7,9 @@ use lib.ListN.{length}
 use mir.Facts.{toZ-ofZ, fits-below}
 use borrow.Author.Needs.{sfits-of}
 use Rattle.mass.specs.Transport.{MassColumns, rightwards}
-use Rattle.mass.proofs.TransportLaws.{ready-same, leftwards-same, right-share-same, rightwards-next}
+use Rattle.mass.proofs.TransportLaws.{ready-same, leftwards-same, shares-same, rightwards-next}
+use Rattle.reach.specs.Parts.{rightOf}
+use Rattle.reach.specs.Ranges.{alone}
 use Rattle.reach.specs.Reach.{leftBoundary, rightBoundary}
 use Rattle.transport.specs.Ranges.{massColumnsWith}
 use borrow.Author.Needs.{needs}
@@ -15,23 +17,29 @@ use Rattle.transport.proofs.boundary_mass_of.Statement.{statement}
 use Rattle.transport.proofs.boundary_mass_of.Tie as tie
 
 abbrev col : tie.Start → MassColumns
-col s = massColumnsWith (now (s .args .mass)) (now (s .args .base)) (now (s .args .carried)) (s .args .t4)
+col s = massColumnsWith (now (s .args .mass)) (now (s .args .base)) (now (s .args .carried)) (alone (now (s .args .drawn))) (s .args .t5)
 
-left-in : (c : tie.After-right-part) →
-    c .right-part .result * leftBoundary (c .before .before .before .before .args .t4) .concentration ≡ col (c .before .before .before .before) .leftIn
+-- the entry, from the first and from the second boundary
+abbrev first : tie.After-right-part → tie.Start
+first c = c .before .before .before .before .before
+
+abbrev second : tie.After-left-part → tie.Start
+second c = first (c .before .before)
+
+left-in : (c : tie.After-right-part) → c .right-part .result * leftBoundary (first c .args .t5) .concentration ≡ col (first c) .leftIn
 left-in c =
-    ap (λ (k : ℕ). k * leftBoundary (c .before .before .before .before .args .t4) .concentration)
+    ap (λ (k : ℕ). k * leftBoundary (first c .args .t5) .concentration)
     (rw (toZ-ofZ (sfits-of (c .before .right-part-arg .given))) at (c .right-part .ensures))
 
 right-in : (c : tie.After-left-part) →
-    c .left-part .result * rightBoundary (c .before .before .before .before .before .before .args .t4) .concentration
-    ≡ col (c .before .before .before .before .before .before) .rightIn
+    c .left-part .result * rightBoundary (second c .args .t5) .concentration
+    ≡ col (second c) .rightIn
 right-in c =
-    ap (λ (k : ℕ). k * rightBoundary (c .before .before .before .before .before .before .args .t4) .concentration)
+    ap (λ (k : ℕ). k * rightBoundary (second c .args .t5) .concentration)
     (rw (toZ-ofZ (sfits-of (c .before .left-part-arg .given))) at (c .left-part .ensures))
 
 shared-slice-copy-out-right-part : tie.Need-shared-slice-copy-out-right-part
-shared-slice-copy-out-right-part c = omega (arith, c .before .before .pre .0 .each 0 .interfaces)
+shared-slice-copy-out-right-part c = omega (arith, c .before .before .before .pre .0 .each 0 .interfaces)
 
 right-part-requires : tie.Need-right-part-requires
 right-part-requires c κs = search needs
@@ -40,13 +48,13 @@ element-copy-out-left-in : tie.Need-element-copy-out-left-in
 element-copy-out-left-in c = search needs
 
 mul-left-in : tie.Need-mul-left-in
-mul-left-in c = rw (left-in c) (fits-below tt (c .before .before .before .before .pre .0 .entering))
+mul-left-in c = rw (left-in c) (fits-below tt (first c .pre .0 .entering))
 
 mul-left-part : tie.Need-mul-left-part
 mul-left-part c = search needs
 
 shared-slice-copy-out-left-part : tie.Need-shared-slice-copy-out-left-part
-shared-slice-copy-out-left-part c = omega (arith, c .before .before .before .before .pre .0 .each 0 .interfaces)
+shared-slice-copy-out-left-part c = omega (arith, first c .pre .0 .each 0 .interfaces)
 
 left-part-requires : tie.Need-left-part-requires
 left-part-requires c κs = search needs
@@ -55,34 +63,34 @@ element-copy-out-right-in : tie.Need-element-copy-out-right-in
 element-copy-out-right-in c = search needs
 
 mul-right-in : tie.Need-mul-right-in
-mul-right-in c = rw (right-in c) (fits-below tt (c .before .before .before .before .before .before .pre .0 .each 0 .entering))
+mul-right-in c = rw (right-in c) (fits-below tt (second c .pre .0 .each 0 .entering))
 
 leaving-requires : tie.Need-leaving-requires
 leaving-requires c κs =
-    let s = c .before .before .before .before .before .before in
-    (rw (right-in c) (ready-same _ _ _ _ 0 _ _ refl 0 refl (s .pre .0 .each 0)), omega arith)
+    let s = second c in
+    (rw (right-in c) (ready-same _ _ _ _ _ 0 _ _ refl 0 refl (s .pre .0 .each 0)), (omega arith, s .pre .1 .1))
 
 sub-leaving : tie.Need-sub-leaving
 sub-leaving c = search needs
 
 leaving-requires-2 : tie.Need-leaving-requires-2
 leaving-requires-2 c κs =
-    let s = c .before .before .before .before .before .before .before in
-    (rw (right-in (c .before)) (ready-same _ _ _ _ 0 _ _ refl _ refl (s .pre .0 .each _)), omega arith)
+    let s = second (c .before) in
+    (rw (right-in (c .before)) (ready-same _ _ _ _ _ 0 _ _ refl _ refl (s .pre .0 .each _)), (omega arith, s .pre .1 .1))
 
 returns : tie.Need-returns
 returns c =
-    let s = c .before .before .before .before .before .before .before .before in
+    let s = second (c .before .before) in
     let x = col s in
     let n = length (now (s .args .mass)) in
     let last : n - 1 + 1 ≡ n = omega arith in
     record {
       left-in = left-in (c .before .before .before .before);
-      left-out = (rw (right-in (c .before .before)) at (c .before .leaving .ensures .0)) ∙ leftwards-same _ _ _ _ 0 (x .leftIn) _ refl 0 refl;
+      left-out = (rw (right-in (c .before .before)) at (c .before .leaving .ensures .0)) ∙ leftwards-same _ _ _ _ _ 0 (x .leftIn) _ refl 0 refl;
       right-in = right-in (c .before .before);
       right-out =
-          (rw (right-in (c .before .before)) at (c .leaving2 .ensures .1 (omega arith)))
-          ∙ right-share-same _ _ _ _ 0 (x .leftIn) (x .rightIn) refl (n - 1) refl
+          (rw (right-in (c .before .before)) at (c .leaving2 .ensures .1 .0 (omega arith)))
+          ∙ ap rightOf (shares-same _ _ _ _ _ 0 (x .leftIn) (x .rightIn) refl (n - 1) refl)
           ∙ sym (rightwards-next x (n - 1))
           ∙ ap (rightwards x) last;
     }

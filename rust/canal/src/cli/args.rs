@@ -14,6 +14,7 @@ canal makes sheets of a canal reach, says what they hold, runs and draws them.
   canal show SHEET             a sheet back to its table
   canal inspect SHEET          what a sheet holds, or why it is refused
   canal run SHEET --for TIME   let the water run, and account for every unit
+      --outlets LIST           outlets along the reach that draw water from it
       --out SHEET              write the sheet as it is after the run
       --step MS                steps of MS milliseconds (default: the greatest allowed)
       --quiet                  no report
@@ -37,6 +38,12 @@ A table:
 Bed and depth are in micrometres, discharge in micrometres times mm/s, concentration
 in micrograms per litre, mass in grains (micrometres times micrograms per litre).
 
+A list of outlets, at most 32:
+
+  # cell  want
+  0  300                       # draws up to 300 micrometres of depth per step
+  1  4000000                   # draws all that its cell can give
+
 Exit status: 0 done, 1 refused or wrong input, 2 wrong arguments, 3 a file could not
 be read or written.
 ";
@@ -57,6 +64,7 @@ pub struct Run {
     pub sheet: Place,
     /// ms
     pub time: u64,
+    pub outlets: Option<Place>,
     pub out: Option<Place>,
     /// ms
     pub step: Option<u64>,
@@ -83,7 +91,7 @@ fn usage_line(command: &str) -> String {
     let wanted = match command {
         "make" => "TABLE SHEET",
         "show" | "inspect" => "SHEET",
-        "run" => "SHEET --for TIME [--out SHEET] [--step MS] [--quiet]",
+        "run" => "SHEET --for TIME [--outlets LIST] [--out SHEET] [--step MS] [--quiet]",
         "plot" => "SHEET OUT.svg",
         _ => return String::new(),
     };
@@ -159,7 +167,8 @@ fn unknown(command: &str, argument: &OsString) -> Failure {
 }
 
 fn run(mut rest: VecDeque<OsString>) -> Result<Run, Failure> {
-    let (mut time, mut out, mut step, mut quiet) = (None, None, None, false);
+    let (mut time, mut step, mut quiet) = (None, None, false);
+    let (mut outlets, mut out) = (None, None);
     let mut places = VecDeque::new();
     while let Some(argument) = rest.pop_front() {
         if !is_option(&argument) {
@@ -173,6 +182,7 @@ fn run(mut rest: VecDeque<OsString>) -> Result<Run, Failure> {
         };
         match option.as_str() {
             "--for" => once(&option, &mut time, duration_of(value()?)?)?,
+            "--outlets" => once(&option, &mut outlets, Place::from(value()?))?,
             "--out" => once(&option, &mut out, Place::from(value()?))?,
             "--step" => once(&option, &mut step, step_of(value()?)?)?,
             "--quiet" | "-q" if attached.is_none() => quiet = true,
@@ -181,13 +191,31 @@ fn run(mut rest: VecDeque<OsString>) -> Result<Run, Failure> {
     }
     let [sheet] = files("run", places, ["SHEET"])?;
     let time = time.ok_or_else(|| Failure::Usage("run wants --for TIME".into()))?;
+    if let Some(list) = &outlets {
+        apart(&sheet, list, out.as_ref())?;
+    }
     Ok(Run {
         sheet,
         time,
+        outlets,
         out,
         step,
         quiet,
     })
+}
+
+/// A list of outlets is not read from where the sheet comes from, nor written over.
+fn apart(sheet: &Place, list: &Place, out: Option<&Place>) -> Result<(), Failure> {
+    if sheet.is_standard() && list.is_standard() {
+        let words = "SHEET and --outlets are both standard input";
+        return Err(Failure::Usage(words.into()));
+    }
+    match out {
+        Some(out) if out.overwrites(list) => Err(Failure::Usage(format!(
+            "--outlets and --out are the same file, {out}"
+        ))),
+        _ => Ok(()),
+    }
 }
 
 /// `--for=90s` is the same as `--for 90s`. A name that is no text must stand by itself, since it cannot be split.

@@ -6,23 +6,29 @@ use super::files::{say, Place};
 use super::progress::Progress;
 use canal::balance::{Balance, Held};
 use canal::describe::{describe, place};
-use canal::explain::{explain, refused};
+use canal::explain::{explain, explain_outlets, refused};
+use canal::outlets::{self, List};
 use canal::record::Record;
 use canal::run::{Made, Stopped};
 use canal::table::{self, Table};
 use canal::units::{counted, metres_of_mm, seconds};
 use canal::{plot as plots, run as runs};
-use jemmyfern::Refusal;
+use jemmyfern::{cells_in, Refusal};
 
 pub fn make(table: &Place, sheet: &Place) -> Result<(), Failure> {
     let wrong = |words: String| Failure::Wrong(format!("{table}: {words}"));
-    let text = String::from_utf8(table.read()?).map_err(|_| wrong("this is not text".into()))?;
-    let made = table::read(&text).map_err(|error| wrong(error.to_string()))?;
+    let made = table::read(&text(table)?).map_err(|error| wrong(error.to_string()))?;
     let draft = made.record.draft_sheet();
     match Record::open(&draft) {
         Ok(_) => sheet.write(&draft),
         Err(refusal) => Err(wrong(refused(&draft, refusal) + &lines_of(&draft, &made))),
     }
+}
+
+/// What a person wrote.
+fn text(place: &Place) -> Result<String, Failure> {
+    String::from_utf8(place.read()?)
+        .map_err(|_| Failure::Wrong(format!("{place}: this is not text")))
 }
 
 /// Where the first cell that is refused stands in the table.
@@ -55,7 +61,7 @@ pub fn inspect(sheet: &Place) -> Result<(), Failure> {
 }
 
 pub fn run(run: &Run) -> Result<(), Failure> {
-    let mut record = open(&run.sheet)?;
+    let mut record = open_with(&run.sheet, run.outlets.as_ref())?;
     let before = Held::by(&record);
     let mut progress = Progress::new(run.time, run.quiet);
     let made = runs::run(&mut record, run.time, run.step, |made| progress.show(made));
@@ -66,7 +72,11 @@ pub fn run(run: &Run) -> Result<(), Failure> {
         let sheet = record.to_sheet().map_err(|r| refusal(&run.sheet, r))?;
         out.write(&sheet)?;
     }
-    let reported = report(run, &format!("{}{balance}", made_line(&made)));
+    let drawn = match &record.outlets[..] {
+        [] => String::new(),
+        outlets => format!("\n{}", outlets::drawn(outlets, record.cell_length)),
+    };
+    let reported = report(run, &format!("{}{balance}{drawn}", made_line(&made)));
     match balance.closes() {
         true => reported,
         false => Err(Failure::Wrong("the balance does not close".into())),
@@ -139,11 +149,30 @@ pub fn plot(sheet: &Place, picture: &Place) -> Result<(), Failure> {
 
 /// The record of a sheet, or the words of its refusal.
 fn open(sheet: &Place) -> Result<Record, Failure> {
+    open_with(sheet, None)
+}
+
+/// The record of a sheet with the outlets of a list.
+fn open_with(sheet: &Place, outlets: Option<&Place>) -> Result<Record, Failure> {
     let bytes = sheet.read()?;
-    Record::open(&bytes).map_err(|ground| {
-        let words = no_sheet(&bytes, ground);
-        Failure::Wrong(format!("{sheet}: {words}"))
+    let list = outlets.map_or(Ok(List::default()), read_list)?;
+    Record::open_with(&bytes, list.outlets.clone()).map_err(|ground| {
+        let (place, words) = match (ground, outlets) {
+            (Refusal::Outlets, Some(place)) => (place, no_list(&bytes, &list)),
+            _ => (sheet, no_sheet(&bytes, ground)),
+        };
+        Failure::Wrong(format!("{place}: {words}"))
     })
+}
+
+fn read_list(place: &Place) -> Result<List, Failure> {
+    outlets::read(&text(place)?).map_err(|error| Failure::Wrong(format!("{place}: {error}")))
+}
+
+/// What is wrong with a list for the reach of a sheet that is sound.
+fn no_list(sheet: &[u8], list: &List) -> String {
+    let explanation = explain_outlets(list, cells_in(sheet));
+    explanation.map_or(Refusal::Outlets.to_string(), |e| e.to_string())
 }
 
 /// What is wrong with the bytes. A table is easily given in the place of its sheet.

@@ -1,9 +1,10 @@
-//! What is wrong with a refused sheet, in words. The ground is the library's to say; this looks for what is broken at it.
+//! What is wrong with a refused sheet or list of outlets, in words. The ground is the library's to say; this looks for what is broken at it.
 
 mod rules;
 
 use crate::layout::{self, Header, COLUMNS, HEADER};
 use crate::limits::*;
+use crate::outlets::List;
 use crate::units::counted;
 use jemmyfern::{Boundary, Refusal};
 use rules::*;
@@ -26,7 +27,8 @@ pub struct Explanation {
 /// More than this are counted only.
 const SHOWN: usize = 8;
 
-/// Looks through the grounds of an opening in the paper's order; None of a sheet that opens. Ground 4 is of lent columns, not of sheets.
+/// Looks through the grounds of an opening in the paper's order; None of a sheet that opens. Ground 4 is of lent columns and 16 of lent outlets, not of
+/// sheets.
 pub fn explain(sheet: &[u8]) -> Option<Explanation> {
     let found = |ground, faults: Vec<Fault>| {
         let broken = !faults.is_empty();
@@ -41,6 +43,30 @@ pub fn explain(sheet: &[u8]) -> Option<Explanation> {
         .or_else(|| found(Refusal::CellLength, cell_length(&header)))
         .or_else(|| found(Refusal::Boundaries, boundaries(&header)))
         .or_else(|| found(Refusal::Values, values(&header, sheet)))
+}
+
+/// What is wrong with a list of outlets for a reach of so many cells (ground 16), by its lines; None of a sound one.
+pub fn explain_outlets(list: &List, cells: usize) -> Option<Explanation> {
+    let mut faults = Vec::new();
+    let count = list.outlets.len();
+    if count > OUTLETS_MOST {
+        let words = format!("{count} outlets, and {OUTLETS_MOST} is the most");
+        faults.push(fault(words));
+    }
+    for (o, line) in list.outlets.iter().zip(&list.lines) {
+        let cell = (o.cell >= cells as u64).then(|| {
+            let reach = counted(cells as u64, "cell");
+            format!(
+                "cell {} is not in the reach of {reach}, counted from 0",
+                o.cell
+            )
+        });
+        let want = outside("want", o.want.into(), (0, WANT_MOST.into()));
+        let words = [cell, want].into_iter().flatten();
+        faults.extend(words.map(|w| fault(format!("line {line}: {w}"))));
+    }
+    let ground = Refusal::Outlets;
+    (!faults.is_empty()).then_some(Explanation { ground, faults })
 }
 
 /// The lines to say of a sheet that the library refused.

@@ -13,7 +13,7 @@
 //! The header may stand in any order. The line `cells` begins the rows of bed, depth, discharge and mass; a line of column names does so too,
 //! and then the rows have those columns, in that order, with 0 in the others. A row that ends in `x 20` stands for twenty equal cells.
 
-mod fields;
+pub(crate) mod fields;
 mod read;
 
 use crate::record::Record;
@@ -40,6 +40,18 @@ pub fn write(record: &Record) -> String {
         format!("{bed} {depth} {discharge} {mass}")
     }));
     lines.join("\n") + "\n"
+}
+
+/// The lines that say something, counted from 1, in words; what stands behind a number sign is a remark.
+pub(crate) fn said_lines(text: &str) -> impl Iterator<Item = (usize, Vec<&str>)> {
+    let text = text.strip_prefix('\u{feff}').unwrap_or(text);
+    let lines = (1..).zip(text.lines().map(said));
+    lines.filter(|(_, words)| !words.is_empty())
+}
+
+fn said(line: &str) -> Vec<&str> {
+    let said = line.split('#').next().unwrap_or("");
+    said.split_whitespace().collect()
 }
 
 /// Text that may be meant as a table, though perhaps a wrong one. No sheet that opens is text: its edition has zero bytes. Pictures, which are

@@ -1,7 +1,7 @@
 //! Text to record.
 
 use super::fields::*;
-use super::COLUMNS;
+use super::{said_lines, COLUMNS};
 use crate::limits::CELLS_MOST;
 use crate::record::Record;
 use crate::units::counted;
@@ -54,20 +54,13 @@ struct Row {
 
 /// Reads a table. Every number fits its field of the sheet afterwards.
 pub fn read(text: &str) -> Result<Table, TableError> {
-    let text = text.strip_prefix('\u{feff}').unwrap_or(text);
     let mut reader = Reader::default();
-    let mut count = 0;
-    for (i, line) in text.lines().enumerate() {
-        count = i + 1;
-        let said = line.split('#').next().unwrap_or("");
-        let words: Vec<&str> = said.split_whitespace().collect();
-        if !words.is_empty() {
-            let taken = reader.take(&words, count);
-            taken.map_err(|words| TableError { line: count, words })?;
-        }
+    for (line, words) in said_lines(text) {
+        let taken = reader.take(&words, line);
+        taken.map_err(|words| TableError { line, words })?;
     }
     reader.finish().map_err(|words| TableError {
-        line: count + 1,
+        line: text.lines().count() + 1,
         words,
     })
 }

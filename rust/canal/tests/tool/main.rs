@@ -4,6 +4,7 @@ mod explain;
 mod files;
 mod inspect;
 mod make;
+mod outlets;
 mod plot;
 mod record;
 mod run;

@@ -26,7 +26,7 @@ fn help_is_no_failure() {
 
 #[test]
 fn wrong_arguments() {
-    let cases: [(&[&str], &str); 16] = [
+    let cases: [(&[&str], &str); 19] = [
         (&["swim"], "there is no command 'swim'"),
         (&["make", "a"], "make wants TABLE SHEET"),
         (&["show"], "show wants SHEET"),
@@ -54,6 +54,18 @@ fn wrong_arguments() {
             &["run", "a", "--for", "1h", "--fast"],
             "run does not know the option --fast",
         ),
+        (
+            &["run", "a", "--for", "1h", "--outlets"],
+            "--outlets wants a value",
+        ),
+        (
+            &["run", "a", "--outlets", "b", "--for", "1h", "--outlets=b"],
+            "--outlets is given twice",
+        ),
+        (
+            &["run", "-", "--for", "1h", "--outlets", "-"],
+            "SHEET and --outlets are both standard input",
+        ),
         (&["--version", "now"], "--version wants nothing"),
     ];
     for (arguments, words) in cases {
@@ -74,7 +86,7 @@ fn usage_line(command: &str) -> &'static [&'static str] {
         "make" => &["usage: canal make TABLE SHEET"],
         "show" => &["usage: canal show SHEET"],
         "inspect" => &["usage: canal inspect SHEET"],
-        "run" => &["usage: canal run SHEET --for TIME [--out SHEET] [--step MS] [--quiet]"],
+        "run" => &["usage: canal run SHEET --for TIME [--outlets LIST] [--out SHEET] [--step MS] [--quiet]"],
         "plot" => &["usage: canal plot SHEET OUT.svg"],
         _ => &[],
     }

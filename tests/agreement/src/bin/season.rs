@@ -1,9 +1,10 @@
-//! A season of steps on both implementations, every call compared: a small reach for a long time, the longest reach for a shorter one, then the
-//! same with the record damaged between calls, as memory in the field may be. Optional: it takes minutes.
+//! A season of steps on both implementations, every call compared: a small reach for a long time, the longest reach for a shorter one, both without
+//! outlets and with some, then the same with the record damaged between calls, as memory in the field may be. Optional: it takes minutes.
 
 use agreement::both::{broken, fresh, same, Call, WALL};
 use reference::random::{Random, Record};
 use reference::record::{End, FED, OPEN};
+use reference::Outlet;
 use std::collections::BTreeMap;
 use std::time::Instant;
 
@@ -52,17 +53,31 @@ fn head(r: &mut Random) -> End {
     }
 }
 
-/// So many steps of the greatest length, with another head every thousand steps. With `damage` every hundred steps a call on the record damaged
-/// in each way of grounds 4 to 9; then the damage is mended.
-fn season(cells: usize, steps: u64, damage: bool) {
+/// What an outlet wants: some millimetres per step or nothing. One that takes all of its cell leaves the discharge behind, by the paper's rules; in
+/// the small reach the water then speeds up to 8 m/s and piles up until 12 stops it.
+fn want(r: &mut Random) -> u64 {
+    let some = r.below(3_000);
+    r.pick(&[0, some, some, some])
+}
+
+/// So many steps of the greatest length, with another head and other wants every thousand steps. With `damage` every hundred steps a call on the
+/// record damaged in each way of grounds 4 to 9 and 16; then the damage is mended.
+fn season(cells: usize, outlets: usize, steps: u64, damage: bool) {
     let mut r = Random::new(97);
     let mut record = canal(&mut r, cells);
+    record.outlets = (0..outlets)
+        .map(|_| Outlet::new(r.below(cells as u64), want(&mut r)))
+        .collect();
     let mut season = Season::default();
     let begun = Instant::now();
     for k in 0..steps {
         if k % 1_000 == 999 {
             let new = [head(&mut r), record.ends[1]];
             assert_eq!(season.call(Call::SetBoundaries(new), &mut record), 0);
+            record
+                .outlets
+                .iter_mut()
+                .for_each(|o| o.want = want(&mut r));
         }
         if damage && k % 100 == 50 {
             for mut b in broken(&mut r, &record) {
@@ -74,8 +89,10 @@ fn season(cells: usize, steps: u64, damage: bool) {
         assert_eq!(season.call(Call::Step(t), &mut record), 0);
     }
     assert_eq!(season.call(Call::Transport, &mut record), 0);
+    let drawn: u64 = record.outlets.iter().map(|o| o.water).sum();
+    assert_eq!(drawn > 0, outlets > 0);
     println!(
-        "{cells} cells, {steps} steps, {}: {} calls agree, {} steps with a transport first; calls by number {:?}; {:?}; {} s",
+        "{cells} cells, {outlets} outlets, {steps} steps, {}: {} calls agree, {} steps with a transport first; calls by number {:?}; {:?}; {drawn} drawn; {} s",
         if damage { "damaged between calls" } else { "undamaged" },
         season.calls,
         season.transports,
@@ -86,8 +103,12 @@ fn season(cells: usize, steps: u64, damage: bool) {
 }
 
 fn main() {
-    season(8, 10_000_000, false);
-    season(512, 200_000, false);
-    season(8, 10_000_000, true);
-    season(512, 200_000, true);
+    for outlets in [0, 6] {
+        season(8, outlets, 10_000_000, false);
+    }
+    for outlets in [0, 32] {
+        season(512, outlets, 200_000, false);
+    }
+    season(8, 6, 10_000_000, true);
+    season(512, 32, 200_000, true);
 }

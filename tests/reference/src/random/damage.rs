@@ -1,10 +1,11 @@
 //! Damage that breaks one chosen ground of a sound record and none before it.
 
+use super::outlets::{damage_drawn, damage_list, damage_totals};
 use super::{Random, Record};
 use crate::record::{outflow, Columns, End, BED_LIMIT, DEEPEST, FASTEST, FED, MOST_TOTAL};
 use crate::record::{LEAST_X, MOST_CELLS, MOST_X, OPEN, RICHEST, WALL};
 
-/// Breaks this ground, 4 to 9, of a sound record.
+/// Breaks this ground, 4 to 9 or 16, of a sound record. 8 and 9 may be broken by its outlets.
 pub fn damage_record(r: &mut Random, record: &mut Record, ground: u32) {
     match ground {
         4 => damage_columns(r, &mut record.columns),
@@ -14,10 +15,17 @@ pub fn damage_record(r: &mut Random, record: &mut Record, ground: u32) {
             damage_end(r, &mut record.ends[side]);
         }
         7 => damage_cell(r, &mut record.columns),
+        16 => damage_list(r, &mut record.outlets, record.columns.bed.len()),
+        8 if by_outlets(r, record) => damage_drawn(r, record),
         8 => damage_carried(r, record),
+        9 if by_outlets(r, record) => damage_totals(r, &mut record.outlets),
         9 => damage_book(r, record),
         _ => panic!("no ground {ground} of a record"),
     }
+}
+
+fn by_outlets(r: &mut Random, record: &Record) -> bool {
+    !record.outlets.is_empty() && r.one_in(2)
 }
 
 /// One column gets a length that does not fit (ground 4).

@@ -37,12 +37,15 @@ fn metre_of_water_at_rest_steps_260_and_not_261() {
 fn cells_512_open_513_and_0_are_2() {
     let mut r = Random::new(3);
     let whole = sheet(&mut r, 512);
-    assert_eq!(open(&whole, &mut Columns::of_cells(512)).refusal, 0);
+    assert_eq!(
+        open(&whole, &mut Columns::of_cells(512), &mut []).refusal,
+        0
+    );
     let over = sheet(&mut r, 513);
-    assert_eq!(open(&over, &mut Columns::of_cells(513)).refusal, 2);
+    assert_eq!(open(&over, &mut Columns::of_cells(513), &mut []).refusal, 2);
     let mut none = over[..80].to_vec();
     none[4..12].copy_from_slice(&[80, 0, 0, 0, 0, 0, 0, 0]);
-    assert_eq!(open(&none, &mut Columns::of_cells(0)).refusal, 2);
+    assert_eq!(open(&none, &mut Columns::of_cells(0), &mut []).refusal, 2);
 }
 
 #[test]

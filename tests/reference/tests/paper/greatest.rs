@@ -6,7 +6,13 @@ use reference::random::{any_record, record, Random, Record};
 use crate::support::{fed_end, open_end, settled, WALL_END};
 
 fn greatest(record: &Record) -> (u64, usize) {
-    let answer = greatest_step(&record.columns, record.x, record.ends, record.book);
+    let answer = greatest_step(
+        &record.columns,
+        &record.outlets,
+        record.x,
+        record.ends,
+        record.book,
+    );
     assert_eq!(answer.refusal, 0);
     assert_eq!((answer.ends, answer.book), (record.ends, record.book));
     (answer.t, answer.place)
@@ -20,7 +26,14 @@ fn greatest_step_is_the_last_that_is_not_11() {
         let (t, _) = greatest(&sound);
         let mut lent = sound.clone();
         for tried in 1..=1_000 {
-            let answer = reference::step(&mut lent.columns, lent.x, lent.ends, lent.book, tried);
+            let answer = reference::step(
+                &mut lent.columns,
+                &mut lent.outlets,
+                lent.x,
+                lent.ends,
+                lent.book,
+                tried,
+            );
             assert_eq!(answer.refusal == 11, tried > t, "t {tried}, greatest {t}");
             if answer.refusal == 0 {
                 lent.clone_from(&sound);

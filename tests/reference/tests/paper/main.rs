@@ -1,10 +1,13 @@
-//! Tests of the second implementation, one module for each part of the paper.
+//! Tests of the second implementation, one module for each part of the papers.
 
 mod amounts;
 mod damage;
 mod errors;
 mod figures;
 mod greatest;
+mod outlet_grounds;
+mod outlet_runs;
+mod outlets;
 mod program;
 mod refusals;
 mod refusals_open;

@@ -2,11 +2,11 @@
 
 use reference::random::Record;
 use reference::{greatest_step, set_ends, settle, step, write};
-use reference::{Answer, End, GreatestAnswer, StepAnswer, WriteAnswer};
+use reference::{Answer, End, GreatestAnswer, Outlet, StepAnswer, WriteAnswer};
 
 use crate::refusals_record::{add, fast_end, overfull, record_breaks, set_carried, Breaks};
-use crate::refusals_record::{ends_broken, flood, DEPTH};
-use crate::support::{fed_end, open_end, record};
+use crate::refusals_record::{drawn_flood, ends_broken, flood, DEPTH};
+use crate::support::{draw, fed_end, open_end, record};
 
 /// All that a call may be given.
 #[derive(Clone, Debug, PartialEq)]
@@ -17,7 +17,7 @@ pub struct Case {
     pub out: Vec<u8>,
 }
 
-/// Three cells of a metre; water enters at the fed left end.
+/// Three cells of a metre; water enters at the fed left end. Two outlets in the middle.
 pub fn sound() -> Case {
     let ends = [fed_end(1_000_000, 500_000_000, 7), open_end(9)];
     let cells = [
@@ -25,16 +25,27 @@ pub fn sound() -> Case {
         (-30, DEPTH, 0, 17),
         (40, DEPTH, 0, 3),
     ];
+    let mut record = record(1_000, ends, &cells, &[0; 4]);
+    record.outlets = vec![Outlet::new(1, 0), Outlet::new(1, 20)];
     Case {
-        record: record(1_000, ends, &cells, &[0; 4]),
+        record,
         t: 100,
         new_ends: [open_end(1), fed_end(4, 9, 2)],
         out: vec![0xA5; 80 + 24 * 3],
     }
 }
 
-/// Breaks each alone, then each pair; the smaller number must win and nothing may change.
-/// The smaller ground is broken last, so that the other cannot mend it.
+/// Turn of a ground in checking order: 16 is "checked after 7".
+pub fn turn(ground: u32) -> u32 {
+    if ground == 16 {
+        turn(7) + 1
+    } else {
+        2 * ground
+    }
+}
+
+/// Breaks each alone, then each pair; the earlier ground must win and nothing may change.
+/// The earlier ground is broken last, so that the other cannot mend it.
 fn check_all(call: fn(&mut Case) -> u32, breaks: &Breaks) {
     assert_eq!(call(&mut sound()), 0);
     for (ground, name, damage) in breaks {
@@ -43,7 +54,10 @@ fn check_all(call: fn(&mut Case) -> u32, breaks: &Breaks) {
         check(call, case, *ground, name);
     }
     for (first, name, damage) in breaks {
-        for (_, other, more) in breaks.iter().filter(|(second, ..)| second > first) {
+        for (_, other, more) in breaks
+            .iter()
+            .filter(|(later, ..)| turn(*later) > turn(*first))
+        {
             let mut case = sound();
             more(&mut case);
             damage(&mut case);
@@ -74,13 +88,17 @@ fn step_refuses_by_4_to_13() {
     add(&mut breaks, 13, "water in", |case| {
         case.record.book.left.water_in = 1_000_000_000_000_000_000;
     });
+    add(&mut breaks, 13, "outlet water", |case| {
+        case.record.outlets[1].water = 1_000_000_000_000_000_000 - 19;
+    });
+    add(&mut breaks, 13, "outlet nutrient", drawn_flood);
     for total in 0..8 {
         add(&mut breaks, 13, "flood", move |case| flood(case, total));
     }
     check_all(
         |case| {
             let r = &mut case.record;
-            let answer = step(&mut r.columns, r.x, r.ends, r.book, case.t);
+            let answer = step(&mut r.columns, &mut r.outlets, r.x, r.ends, r.book, case.t);
             let refusal = answer.refusal;
             let blank = StepAnswer {
                 refusal,
@@ -114,6 +132,11 @@ fn full_nutrient_totals(breaks: &mut Breaks) {
         set_carried(case, [0, 0, 0, DEPTH as i64]);
         case.record.book.right.nutrient_out = FULL - 2;
     });
+    // all 17 grains of the middle cell
+    add(breaks, 13, "outlet nutrient", |case| {
+        draw(&mut case.record, 0, DEPTH);
+        case.record.outlets[0].nutrient = FULL - 16;
+    });
 }
 
 fn refused(answer: Answer, record: &Record) -> u32 {
@@ -133,7 +156,7 @@ fn settling_refuses_by_4_to_9_and_13() {
     check_all(
         |case| {
             let r = &mut case.record;
-            let answer = settle(&mut r.columns, r.x, r.ends, r.book);
+            let answer = settle(&mut r.columns, &mut r.outlets, r.x, r.ends, r.book);
             refused(answer, r)
         },
         &breaks,
@@ -152,7 +175,14 @@ fn end_setting_refuses_by_4_to_9_and_13() {
     check_all(
         |case| {
             let r = &mut case.record;
-            let answer = set_ends(&mut r.columns, r.x, r.ends, r.book, case.new_ends);
+            let answer = set_ends(
+                &mut r.columns,
+                &mut r.outlets,
+                r.x,
+                r.ends,
+                r.book,
+                case.new_ends,
+            );
             refused(answer, r)
         },
         &breaks,
@@ -164,7 +194,7 @@ fn greatest_step_refuses_by_4_to_9() {
     check_all(
         |case| {
             let r = &case.record;
-            let answer = greatest_step(&r.columns, r.x, r.ends, r.book);
+            let answer = greatest_step(&r.columns, &r.outlets, r.x, r.ends, r.book);
             let refusal = answer.refusal;
             let blank = GreatestAnswer {
                 refusal,
@@ -189,6 +219,9 @@ fn write_refuses_by_4_to_9_and_14_and_15() {
     add(&mut breaks, 14, "last interface", |case| {
         set_carried(case, [0, 0, 0, -1])
     });
+    add(&mut breaks, 14, "drawn water", |case| {
+        draw(&mut case.record, 1, 1);
+    });
     for room in [0, 79, 80, 80 + 24 * 3 - 1] {
         add(&mut breaks, 15, "short", move |case| {
             case.out.truncate(room)
@@ -197,7 +230,7 @@ fn write_refuses_by_4_to_9_and_14_and_15() {
     check_all(
         |case| {
             let r = &case.record;
-            let answer = write(&r.columns, r.x, r.ends, r.book, &mut case.out);
+            let answer = write(&r.columns, &r.outlets, r.x, r.ends, r.book, &mut case.out);
             let refusal = answer.refusal;
             let (ends, book) = (r.ends, r.book);
             assert_eq!(
@@ -220,14 +253,20 @@ fn grounds_that_do_not_concern_a_call_are_skipped() {
     let mut case = sound();
     set_carried(&mut case, [5, 0, 0, -5]);
     let r = &mut case.record;
-    assert_eq!(settle(&mut r.columns, r.x, r.ends, r.book).refusal, 0);
+    assert_eq!(
+        settle(&mut r.columns, &mut r.outlets, r.x, r.ends, r.book).refusal,
+        0
+    );
     flood(&mut case, 0);
     let r = &case.record;
-    assert_eq!(greatest_step(&r.columns, r.x, r.ends, r.book).refusal, 0);
+    assert_eq!(
+        greatest_step(&r.columns, &r.outlets, r.x, r.ends, r.book).refusal,
+        0
+    );
     let mut full = sound();
     full.record.book.left.water_in = 1_000_000_000_000_000_000;
     let r = &full.record;
-    let answer = write(&r.columns, r.x, r.ends, r.book, &mut full.out);
+    let answer = write(&r.columns, &r.outlets, r.x, r.ends, r.book, &mut full.out);
     assert_eq!(answer.refusal, 0);
 }
 
@@ -237,7 +276,7 @@ fn totals_may_reach_the_limit_but_not_pass_it() {
     set_carried(&mut case, [1, 0, 0, 0]);
     let r = &mut case.record;
     r.book.left.nutrient_in = 1_000_000_000_000_000_000 - 7;
-    let answer = settle(&mut r.columns, r.x, r.ends, r.book);
+    let answer = settle(&mut r.columns, &mut r.outlets, r.x, r.ends, r.book);
     assert_eq!(answer.refusal, 0);
     assert_eq!(answer.book.left.nutrient_in, 1_000_000_000_000_000_000);
 }

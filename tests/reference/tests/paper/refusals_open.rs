@@ -1,42 +1,64 @@
 //! Every ground of opening alone and every pair.
 
 use reference::random::{sheet_of, COLUMN_ORDERS};
-use reference::{open, Book, Columns, End, OpenAnswer};
+use reference::{open, Book, Columns, End, OpenAnswer, Outlet};
 
-use crate::refusals::sound;
+use crate::refusals::{sound, turn};
 
-type Break = (u32, &'static str, Box<dyn Fn(&mut Vec<u8>, &mut Columns)>);
+type Break = (u32, &'static str, Box<dyn Fn(&mut Case)>);
+
+/// All that an opening is given.
+#[derive(Clone, Debug, PartialEq)]
+struct Case {
+    sheet: Vec<u8>,
+    columns: Columns,
+    outlets: Vec<Outlet>,
+}
 
 /// Three cells: 152 bytes, columns at 80, 92, 104 and 128.
-fn sound_sheet() -> (Vec<u8>, Columns) {
-    let mut lent = Columns::of_cells(3);
-    lent.bed.fill(11);
-    lent.carried.fill(-12);
-    (sheet_of(&sound().record, COLUMN_ORDERS[0]), lent)
+fn sound_case() -> Case {
+    let mut columns = Columns::of_cells(3);
+    columns.bed.fill(11);
+    columns.carried.fill(-12);
+    let outlet = Outlet {
+        drawn: u64::MAX,
+        ..Outlet::new(2, 13)
+    };
+    Case {
+        sheet: sheet_of(&sound().record, COLUMN_ORDERS[0]),
+        columns,
+        outlets: vec![outlet; 2],
+    }
 }
 
 /// Writes a u32 into the sheet.
 fn word(ground: u32, name: &'static str, at: usize, value: u32) -> Break {
-    let put = move |sheet: &mut Vec<u8>, _: &mut Columns| {
-        sheet[at..at + 4].copy_from_slice(&value.to_le_bytes());
+    let put = move |case: &mut Case| {
+        case.sheet[at..at + 4].copy_from_slice(&value.to_le_bytes());
     };
     (ground, name, Box::new(put))
 }
 
 fn long(ground: u32, name: &'static str, at: usize, value: i64) -> Break {
-    let put = move |sheet: &mut Vec<u8>, _: &mut Columns| {
-        sheet[at..at + 8].copy_from_slice(&value.to_le_bytes());
+    let put = move |case: &mut Case| {
+        case.sheet[at..at + 8].copy_from_slice(&value.to_le_bytes());
     };
     (ground, name, Box::new(put))
 }
 
 fn size(ground: u32, name: &'static str, bytes: usize) -> Break {
-    let cut = move |sheet: &mut Vec<u8>, _: &mut Columns| sheet.resize(bytes, 0);
+    let cut = move |case: &mut Case| case.sheet.resize(bytes, 0);
     (ground, name, Box::new(cut))
 }
 
 fn lend(change: impl Fn(&mut Columns) + 'static) -> Break {
-    (4, "lent column", Box::new(move |_, c| change(c)))
+    let lend = move |case: &mut Case| change(&mut case.columns);
+    (4, "lent column", Box::new(lend))
+}
+
+fn list(name: &'static str, change: impl Fn(&mut Vec<Outlet>) + 'static) -> Break {
+    let lend = move |case: &mut Case| change(&mut case.outlets);
+    (16, name, Box::new(lend))
 }
 
 fn breaks() -> Vec<Break> {
@@ -88,6 +110,13 @@ fn breaks() -> Vec<Break> {
         long(7, "least discharge", 120, i64::MIN),
         long(7, "nutrient", 128, 500_000_000_001),
         long(7, "most nutrient", 144, -1),
+        list("33 outlets", |o| o.resize(33, Outlet::default())),
+        list("cell 3", |o| o[0].cell = 3),
+        list("cell 2^32 + 1", |o| o[1].cell = (1 << 32) + 1),
+        list("last cell", |o| o[1].cell = u64::MAX),
+        list("want", |o| o[1].want = 4_000_001),
+        list("want 2^32", |o| o[0].want = 1 << 32),
+        list("greatest want", |o| o[0].want = u64::MAX),
     ];
     for at in [16, 20, 24, 28] {
         list.push(word(3, "offset 0", at, 0));
@@ -103,25 +132,28 @@ fn breaks() -> Vec<Break> {
     list
 }
 
-fn check((sheet, lent): (Vec<u8>, Columns), ground: u32, name: &str) {
-    let mut columns = lent.clone();
+fn open_case(case: &mut Case) -> OpenAnswer {
+    open(&case.sheet, &mut case.columns, &mut case.outlets)
+}
+
+fn check(mut case: Case, ground: u32, name: &str) {
+    let before = case.clone();
     let refused = OpenAnswer {
         refusal: ground,
         x: 0,
         ends: [End::default(); 2],
         book: Book::default(),
     };
-    assert_eq!(open(&sheet, &mut columns), refused, "{name}");
-    assert_eq!(columns, lent, "{name}");
+    assert_eq!(open_case(&mut case), refused, "{name}");
+    assert_eq!(case, before, "{name}");
 }
 
 #[test]
-fn opening_refuses_by_1_to_7() {
-    let (sheet, mut lent) = sound_sheet();
-    assert_eq!(open(&sheet, &mut lent).refusal, 0);
+fn opening_refuses_by_1_to_7_and_16() {
+    assert_eq!(open_case(&mut sound_case()).refusal, 0);
     for (ground, name, damage) in &breaks() {
-        let mut case = sound_sheet();
-        damage(&mut case.0, &mut case.1);
+        let mut case = sound_case();
+        damage(&mut case);
         check(case, *ground, name);
     }
 }
@@ -130,11 +162,14 @@ fn opening_refuses_by_1_to_7() {
 fn first_ground_of_two_wins_at_opening() {
     let breaks = breaks();
     for (first, name, damage) in &breaks {
-        for (_, other, more) in breaks.iter().filter(|(second, ..)| second > first) {
-            let mut case = sound_sheet();
-            // the smaller ground last, so that the other cannot mend it
-            more(&mut case.0, &mut case.1);
-            damage(&mut case.0, &mut case.1);
+        for (_, other, more) in breaks
+            .iter()
+            .filter(|(later, ..)| turn(*later) > turn(*first))
+        {
+            let mut case = sound_case();
+            // the earlier ground last, so that the other cannot mend it
+            more(&mut case);
+            damage(&mut case);
             check(case, *first, &format!("{name} and {other}"));
         }
     }

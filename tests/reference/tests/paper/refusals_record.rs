@@ -1,11 +1,12 @@
-//! Ways to break grounds 4 to 9 of the sound three-cell record, and 11 to 13 of its step.
+//! Ways to break grounds 4 to 9 and 16 of the sound three-cell record, and 11 to 13 of its step.
 
+use reference::outlet::drawn_at;
 use reference::random::{book_from, Random};
 use reference::record::MOST_TOTAL;
-use reference::End;
+use reference::{End, Outlet};
 
 use crate::refusals::Case;
-use crate::support::{fed_end, open_end, WALL_END};
+use crate::support::{draw, fed_end, open_end, WALL_END};
 
 pub const DEPTH: u64 = 1_000_000;
 
@@ -31,7 +32,10 @@ pub fn record_breaks() -> Breaks {
         });
     }
     values(&mut breaks);
+    lists(&mut breaks);
     carried(&mut breaks);
+    drawn(&mut breaks);
+    outlet_totals(&mut breaks);
     for total in 0..8 {
         for over in [MOST_TOTAL + 1, u64::MAX] {
             let mut totals = [0; 8];
@@ -158,12 +162,62 @@ fn values(breaks: &mut Breaks) {
     }
 }
 
-/// Carried water with depths that follow from it.
+fn lists(breaks: &mut Breaks) {
+    for length in [33, 100] {
+        add(breaks, 16, "list", move |case| {
+            case.record.outlets.resize(length, Outlet::default());
+        });
+    }
+    for cell in [3, 1 << 32, (1 << 32) + 1, 1 << 63, u64::MAX] {
+        add(breaks, 16, "cell", move |case| {
+            case.record.outlets[0].cell = cell;
+        });
+    }
+    for want in [4_000_001, 1 << 32, 1 << 63, u64::MAX] {
+        add(breaks, 16, "want", move |case| {
+            case.record.outlets[1].want = want;
+        });
+    }
+}
+
+fn drawn(breaks: &mut Breaks) {
+    for more in [1, 1 << 32, 1 << 63] {
+        add(breaks, 8, "drawn", move |case| {
+            case.record.outlets[1].drawn += more;
+        });
+    }
+    add(breaks, 8, "drawn past 64 bits", |case| {
+        case.record.outlets[0].drawn += 1 << 63;
+        case.record.outlets[1].drawn += 1 << 63;
+    });
+    // all that is there, after 5 went on to the right
+    add(breaks, 8, "drawn over the base", |case| {
+        case.record.columns.base.fill(DEPTH);
+        case.record.columns.discharge[1] = 0;
+        set_carried(case, [5; 4]);
+        let more = case.record.columns.depth[1];
+        draw(&mut case.record, 0, more);
+    });
+}
+
+fn outlet_totals(breaks: &mut Breaks) {
+    for over in [MOST_TOTAL + 1, u64::MAX] {
+        add(breaks, 9, "outlet water", move |case| {
+            case.record.outlets[1].water = over;
+        });
+        add(breaks, 9, "outlet nutrient", move |case| {
+            case.record.outlets[0].nutrient = over;
+        });
+    }
+}
+
+/// Carried water with depths that follow from it and from the drawn water.
 pub fn set_carried(case: &mut Case, carried: [i64; 4]) {
     let c = &mut case.record.columns;
     c.carried = carried.to_vec();
     for i in 0..3 {
-        c.depth[i] = (c.base[i] as i64 + carried[i] - carried[i + 1]) as u64;
+        let drawn = drawn_at(&case.record.outlets, i) as i64;
+        c.depth[i] = (c.base[i] as i64 + carried[i] - carried[i + 1] - drawn) as u64;
     }
 }
 
@@ -206,6 +260,16 @@ pub fn overfull(case: &mut Case) {
     case.record.ends[0] = fed_end(4_000_000, 2_000 * 4_000_000, 0);
     case.record.columns.base.fill(4_000_000);
     set_carried(case, [0; 4]);
+}
+
+/// A step that settles by drawn water and gives the first outlet 8 of 17 grains, a grain too many:
+/// it has drawn half the base depth, and the second takes more than the other half.
+pub fn drawn_flood(case: &mut Case) {
+    let half = DEPTH as i64 / 2;
+    set_carried(case, [half, half, 0, 0]);
+    draw(&mut case.record, 0, DEPTH / 2);
+    case.record.outlets[0].nutrient = MOST_TOTAL - 7;
+    case.record.outlets[1].want = DEPTH;
 }
 
 /// A step that settles and adds to all totals of two ends; one of those is full.

@@ -4,18 +4,25 @@ use reference::random::{
     any_record, cell_count, damage_end, damage_record, end, record_of, sheet_of, Random, Record,
     COLUMN_ORDERS,
 };
-use reference::{greatest_step, set_ends, write, Book, Columns, End};
+use reference::{greatest_step, set_ends, write, Book, Columns, End, Outlet};
 
 use crate::support::{settle, step};
 
-/// What must stay the same, whatever the calls: held, less what came in, plus what went out.
-fn amounts(record: &Record) -> (i128, i128) {
+/// What must stay the same, whatever the calls: held, less what came in, plus what went out at the
+/// ends and to outlets.
+pub fn amounts(record: &Record) -> (i128, i128) {
     let (l, r) = (&record.book.left, &record.book.right);
     let sum = |column: &[u64]| column.iter().map(|&v| i128::from(v)).sum::<i128>();
+    let outlets = |total: fn(&Outlet) -> u64| -> i128 {
+        (record.outlets.iter().map(total)).map(i128::from).sum()
+    };
     let net = |out: [u64; 2], into: [u64; 2]| sum(&out) - sum(&into);
     (
-        sum(&record.columns.depth) + net([l.water_out, r.water_out], [l.water_in, r.water_in]),
+        sum(&record.columns.depth)
+            + outlets(|o| o.water)
+            + net([l.water_out, r.water_out], [l.water_in, r.water_in]),
         sum(&record.columns.nutrient)
+            + outlets(|o| o.nutrient)
             + net(
                 [l.nutrient_out, r.nutrient_out],
                 [l.nutrient_in, r.nutrient_in],
@@ -24,13 +31,13 @@ fn amounts(record: &Record) -> (i128, i128) {
 }
 
 /// Two numbers that bound every cell and end.
-struct Bounds {
-    lower: u64,
-    upper: u64,
+pub struct Bounds {
+    pub lower: u64,
+    pub upper: u64,
 }
 
 impl Bounds {
-    fn of(record: &Record) -> Bounds {
+    pub fn of(record: &Record) -> Bounds {
         let c = &record.columns;
         let mut bounds = Bounds {
             lower: 500_000,
@@ -59,7 +66,7 @@ impl Bounds {
         }
     }
 
-    fn hold(&self, c: &Columns) -> bool {
+    pub fn hold(&self, c: &Columns) -> bool {
         (0..c.bed.len()).all(|i| {
             self.lower * c.base[i] <= c.nutrient[i] && c.nutrient[i] <= self.upper * c.base[i]
         })
@@ -67,14 +74,14 @@ impl Bounds {
 }
 
 #[derive(Default)]
-struct Tally {
-    steps: u32,
-    settled: u32,
-    refused: u32,
+pub struct Tally {
+    pub steps: u32,
+    pub settled: u32,
+    pub refused: u32,
 }
 
 /// One call with random free arguments; a refused one must change nothing.
-fn random_call(r: &mut Random, record: &mut Record, bounds: &mut Bounds, tally: &mut Tally) {
+pub fn random_call(r: &mut Random, record: &mut Record, bounds: &mut Bounds, tally: &mut Tally) {
     let before = record.clone();
     let refusal = match r.below(12) {
         0 => settle(record),
@@ -83,8 +90,8 @@ fn random_call(r: &mut Random, record: &mut Record, bounds: &mut Bounds, tally: 
             if r.one_in(4) {
                 damage_end(r, &mut given[1]);
             }
-            let c = &mut record.columns;
-            let answer = set_ends(c, record.x, record.ends, record.book, given);
+            let (c, outlets) = (&mut record.columns, &mut record.outlets);
+            let answer = set_ends(c, outlets, record.x, record.ends, record.book, given);
             (record.ends, record.book) = (answer.ends, answer.book);
             bounds.widen_by(&record.ends);
             answer.refusal
@@ -93,6 +100,7 @@ fn random_call(r: &mut Random, record: &mut Record, bounds: &mut Bounds, tally: 
             let mut out = vec![0; r.between(80, 2_000) as usize];
             write(
                 &record.columns,
+                &record.outlets,
                 record.x,
                 record.ends,
                 record.book,
@@ -101,7 +109,14 @@ fn random_call(r: &mut Random, record: &mut Record, bounds: &mut Bounds, tally: 
             .refusal
         }
         _ => {
-            let t = greatest_step(&record.columns, record.x, record.ends, record.book).t;
+            let t = greatest_step(
+                &record.columns,
+                &record.outlets,
+                record.x,
+                record.ends,
+                record.book,
+            )
+            .t;
             let t = match r.below(6) {
                 0 => r.below(1_002),
                 1 => t,
@@ -120,8 +135,16 @@ fn random_call(r: &mut Random, record: &mut Record, bounds: &mut Bounds, tally: 
 }
 
 /// The record is sound again: depths from 0 up, ranges, carried water and book.
-fn sound(record: &Record) -> bool {
-    greatest_step(&record.columns, record.x, record.ends, record.book).refusal == 0
+pub fn sound(record: &Record) -> bool {
+    greatest_step(
+        &record.columns,
+        &record.outlets,
+        record.x,
+        record.ends,
+        record.book,
+    )
+    .refusal
+        == 0
 }
 
 #[test]
@@ -154,7 +177,14 @@ fn long_run_between_walls_keeps_every_grain_and_micrometre() {
     let start = amounts(&record);
     let mut settled = 0;
     for _ in 0..1_000 {
-        let t = greatest_step(&record.columns, record.x, record.ends, record.book).t;
+        let t = greatest_step(
+            &record.columns,
+            &record.outlets,
+            record.x,
+            record.ends,
+            record.book,
+        )
+        .t;
         let answer = step(&mut record, t);
         assert_eq!(answer.refusal, 0);
         settled += u32::from(answer.settled);
@@ -192,6 +222,19 @@ fn cut(record: &mut Record) {
     }
 }
 
+/// Fields 10 to 14 are those of a new outlet.
+fn odd_outlet(record: &mut Record, field: u64, value: u64) {
+    let mut outlet = Outlet::new(0, 7);
+    match field {
+        10 => outlet.cell = value,
+        11 => outlet.want = value,
+        12 => outlet.drawn = value,
+        13 => outlet.water = value,
+        _ => outlet.nutrient = value,
+    }
+    record.outlets.push(outlet);
+}
+
 #[test]
 fn no_values_make_a_call_panic() {
     let mut r = Random::new(16);
@@ -212,7 +255,7 @@ fn no_values_make_a_call_panic() {
         for _ in 0..r.below(4) {
             let i = r.below(n as u64) as usize;
             let value = r.pick(&odd);
-            match r.below(10) {
+            match r.below(15) {
                 0 => record.columns.bed[i] = value as i64,
                 1 => record.columns.depth[i] = value,
                 2 => record.columns.discharge[i] = value as i64,
@@ -222,7 +265,8 @@ fn no_values_make_a_call_panic() {
                 6 => record.ends[0].discharge = value as i64,
                 7 => record.ends[0].depth = value,
                 8 => record.ends[1].concentration = value,
-                _ => record.x = value,
+                9 => record.x = value,
+                field => odd_outlet(&mut record, field, value),
             }
         }
         if r.one_in(3) {
@@ -230,10 +274,17 @@ fn no_values_make_a_call_panic() {
         }
         let t = r.pick(&odd);
         let given = record.ends;
-        let _ = greatest_step(&record.columns, record.x, record.ends, record.book);
+        let _ = greatest_step(
+            &record.columns,
+            &record.outlets,
+            record.x,
+            record.ends,
+            record.book,
+        );
         let mut out = vec![0; 200];
         let _ = write(
             &record.columns,
+            &record.outlets,
             record.x,
             record.ends,
             record.book,
@@ -241,10 +292,11 @@ fn no_values_make_a_call_panic() {
         );
         step(&mut record.clone(), t);
         settle(&mut record.clone());
-        let c = &mut record.columns.clone();
-        let _ = set_ends(c, record.x, record.ends, record.book, given);
+        let (c, outlets) = (&mut record.columns.clone(), &mut record.outlets.clone());
+        let _ = set_ends(c, outlets, record.x, record.ends, record.book, given);
         cut(&mut record);
         let bytes = sheet_of(&record, COLUMN_ORDERS[0]);
-        let _ = reference::open(&bytes, &mut Columns::of_cells(n));
+        let outlets = &mut record.outlets.clone();
+        let _ = reference::open(&bytes, &mut Columns::of_cells(n), outlets);
     }
 }

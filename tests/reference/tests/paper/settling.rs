@@ -10,8 +10,8 @@ fn end_setting_settles_under_the_old_pair_and_gives_the_new() {
     let old = [open_end(100), open_end(200)];
     let new = [WALL_END, fed_end(5, -7, 300)];
     let mut reach = record(500, old, &[(0, 10, 0, 40), (0, 10, 0, 0)], &[3, 5, -2]);
-    let c = &mut reach.columns;
-    let answer = set_ends(c, reach.x, reach.ends, reach.book, new);
+    let (c, outlets) = (&mut reach.columns, &mut reach.outlets);
+    let answer = set_ends(c, outlets, reach.x, reach.ends, reach.book, new);
     assert_eq!((answer.refusal, answer.ends), (0, new));
     // 3 enter at 100, half of 40 moves on, 2 enter at 200
     assert_eq!(c.nutrient, [320, 420]);
@@ -65,6 +65,6 @@ fn cfl_may_be_met_exactly() {
     assert_eq!(step(&mut cell, 501).refusal, 11);
     assert_eq!(step(&mut cell, 500).refusal, 0);
     let c = &cell.columns;
-    let answer = reference::greatest_step(c, cell.x, cell.ends, cell.book);
+    let answer = reference::greatest_step(c, &cell.outlets, cell.x, cell.ends, cell.book);
     assert_eq!(answer.t, 500);
 }

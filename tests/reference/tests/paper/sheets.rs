@@ -14,6 +14,7 @@ fn written(record: &Record, room: usize) -> Vec<u8> {
     let mut out = vec![0xA5; room];
     let answer = write(
         &record.columns,
+        &record.outlets,
         record.x,
         record.ends,
         record.book,
@@ -34,10 +35,11 @@ fn opened(sheet: &[u8], n: usize) -> Record {
         base: vec![9; n],
         carried: vec![3; n + 1],
     };
-    let answer = open(sheet, &mut columns);
+    let answer = open(sheet, &mut columns, &mut []);
     assert_eq!(answer.refusal, 0);
     Record {
         columns,
+        outlets: vec![],
         x: answer.x,
         ends: answer.ends,
         book: answer.book,
@@ -120,6 +122,6 @@ fn no_bytes_make_opening_or_the_program_panic() {
         }
         let text = program(&bytes);
         assert!(text.starts_with("cells ") || text.starts_with("refused "));
-        let _ = open(&bytes, &mut Columns::of_cells(n));
+        let _ = open(&bytes, &mut Columns::of_cells(n), &mut []);
     }
 }

@@ -43,6 +43,7 @@ pub fn record(x: u64, ends: [End; 2], cells: &[(i64, u64, i64, u64)], carried: &
     columns.carried = carried.to_vec();
     Record {
         columns,
+        outlets: vec![],
         x,
         ends,
         book: Book::default(),
@@ -54,16 +55,36 @@ pub fn settled(x: u64, ends: [End; 2], cells: &[(i64, u64, i64, u64)]) -> Record
     record(x, ends, cells, &vec![0; cells.len() + 1])
 }
 
+/// Outlet k has drawn this since the settling; its cell's depth is less by it.
+pub fn draw(record: &mut Record, k: usize, water: u64) {
+    let outlet = &mut record.outlets[k];
+    outlet.drawn += water;
+    record.columns.depth[outlet.place()] -= water;
+}
+
 /// Steps and holds the book handed back.
 pub fn step(record: &mut Record, t: u64) -> StepAnswer {
-    let answer = reference::step(&mut record.columns, record.x, record.ends, record.book, t);
+    let answer = reference::step(
+        &mut record.columns,
+        &mut record.outlets,
+        record.x,
+        record.ends,
+        record.book,
+        t,
+    );
     record.book = answer.book;
     answer
 }
 
 /// Settles and holds the book handed back; gives the refusal.
 pub fn settle(record: &mut Record) -> u32 {
-    let answer = reference::settle(&mut record.columns, record.x, record.ends, record.book);
+    let answer = reference::settle(
+        &mut record.columns,
+        &mut record.outlets,
+        record.x,
+        record.ends,
+        record.book,
+    );
     record.book = answer.book;
     answer.refusal
 }

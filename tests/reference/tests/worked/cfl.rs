@@ -9,6 +9,7 @@ use crate::{columns, step, WALL};
 fn one_cell(h: u64, q: i64, ends: [End; 2]) -> Record {
     Record {
         columns: columns(&[(0, h, q, 0, h)], &[0, 0]),
+        outlets: vec![],
         x: 1_000,
         ends,
         book: Book::default(),
@@ -19,7 +20,13 @@ fn one_cell(h: u64, q: i64, ends: [End; 2]) -> Record {
 fn equality(record: &Record, t: u16, place: u16) {
     assert_eq!(step(&mut record.clone(), t).refusal, 0);
     assert_eq!(step(&mut record.clone(), t + 1).refusal, 11);
-    let greatest = greatest_step(&record.columns, record.x, record.ends, record.book);
+    let greatest = greatest_step(
+        &record.columns,
+        &record.outlets,
+        record.x,
+        record.ends,
+        record.book,
+    );
     assert_eq!(greatest.refusal, 0);
     assert_eq!(greatest.t, t.into());
     assert_eq!(greatest.place, place.into());
@@ -53,6 +60,7 @@ fn cfl_of_a_pit() {
     let bank = (300_000, 0, 0, 0, 0);
     let pit = Record {
         columns: columns(&[bank, (0, 272_000, 0, 0, 272_000), bank], &[0, 0, 0, 0]),
+        outlets: vec![],
         x: 1_000,
         ends: [WALL, WALL],
         book: Book::default(),

@@ -26,6 +26,7 @@ const TORRENT: End = End {
 fn cell(b: u64, x: u16, left: End, h: u64, c: i64, water: u64, nutrient: u64) -> Record {
     Record {
         columns: columns(&[(0, h, 0, 0, b)], &[c, 0]),
+        outlets: vec![],
         x: x.into(),
         ends: [left, WALL],
         book: book([water, 0, nutrient, 0], [0; 4]),
@@ -55,9 +56,15 @@ fn ladder_of_a_step() {
     assert_eq!(refused(&r, 1_001), 8);
     r.columns.carried[0] = 0;
     assert_eq!(refused(&r, 1_001), 9);
-    assert_eq!(greatest_step(&r.columns, r.x, r.ends, r.book).refusal, 9);
+    assert_eq!(
+        greatest_step(&r.columns, &r.outlets, r.x, r.ends, r.book).refusal,
+        9
+    );
     r.book.left.water_in = MOST_TOTAL;
-    assert_eq!(greatest_step(&r.columns, r.x, r.ends, r.book).refusal, 0);
+    assert_eq!(
+        greatest_step(&r.columns, &r.outlets, r.x, r.ends, r.book).refusal,
+        0
+    );
     assert_eq!(refused(&r, 1_001), 10);
     assert_eq!(refused(&r, 1_000), 11);
     assert_eq!(refused(&r, 6), 12);
@@ -72,7 +79,15 @@ fn ladder_of_a_step() {
 fn new_ends_come_after_x_and_before_the_cells() {
     let set = |x, left: End| {
         let mut r = cell(5_000_000, x, TORRENT, 5_000_000, 0, 0, 0);
-        set_ends(&mut r.columns, r.x, r.ends, r.book, [left, WALL]).refusal
+        set_ends(
+            &mut r.columns,
+            &mut r.outlets,
+            r.x,
+            r.ends,
+            r.book,
+            [left, WALL],
+        )
+        .refusal
     };
     let found = [set(0, kind_of(3)), set(100, kind_of(3)), set(100, TORRENT)];
     assert_eq!(found, [5, 6, 7]);
@@ -89,7 +104,7 @@ fn a_settling_of_one_grain() {
 fn carried_water_comes_before_room() {
     let written = |r: Record, room: usize| {
         let mut out = vec![0; room];
-        write(&r.columns, r.x, r.ends, r.book, &mut out).refusal
+        write(&r.columns, &r.outlets, r.x, r.ends, r.book, &mut out).refusal
     };
     let emptied = || cell(0, 100, TORRENT, 0, 0, 0, 0);
     let found = [
@@ -129,6 +144,6 @@ fn ladder_of_an_opening() {
         ([1, 1, 80, 100, 0, 255], 1),
         ([1, 1, 80, 100, 0, 1], 1),
     ]
-    .map(|(bytes, cells)| open(&sheet(bytes), &mut Columns::of_cells(cells)).refusal);
+    .map(|(bytes, cells)| open(&sheet(bytes), &mut Columns::of_cells(cells), &mut []).refusal);
     assert_eq!(found, [1, 2, 3, 4, 5, 6, 7, 0]);
 }

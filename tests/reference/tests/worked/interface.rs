@@ -13,6 +13,7 @@ fn over_step(left: (u64, i64), right: (u64, i64)) -> Record {
     ];
     Record {
         columns: columns(&cells, &[0; 3]),
+        outlets: vec![],
         x: 1_030,
         ends: [WALL; 2],
         book: Book::default(),

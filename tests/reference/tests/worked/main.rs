@@ -5,6 +5,7 @@ mod cfl;
 mod flux;
 mod grounds;
 mod interface;
+mod outlets;
 mod shares;
 mod sheets;
 mod steps;
@@ -53,14 +54,21 @@ fn book(left: [u64; 4], right: [u64; 4]) -> Book {
 
 /// A step of t; the record keeps the book handed back.
 fn step(r: &mut Record, t: u16) -> StepAnswer {
-    let answer = reference::step(&mut r.columns, r.x, r.ends, r.book, t.into());
+    let answer = reference::step(
+        &mut r.columns,
+        &mut r.outlets,
+        r.x,
+        r.ends,
+        r.book,
+        t.into(),
+    );
     r.book = answer.book;
     answer
 }
 
 /// A settling; the record keeps the book handed back.
 fn settle(r: &mut Record) -> u32 {
-    let answer = reference::settle(&mut r.columns, r.x, r.ends, r.book);
+    let answer = reference::settle(&mut r.columns, &mut r.outlets, r.x, r.ends, r.book);
     r.book = answer.book;
     answer.refusal
 }

@@ -9,6 +9,7 @@ fn a_grain_of_which_all_the_water_left() {
     let open = End { kind: 1, ..WALL };
     let mut r = Record {
         columns: columns(&[(0, 0, 0, 1, 2)], &[-1, 1]),
+        outlets: vec![],
         x: 1_000,
         ends: [open; 2],
         book: Book::default(),
@@ -29,6 +30,7 @@ fn both_shares_and_both_inflows() {
     let cells = [(0, 24, 0, 100, 20), (0, 2, 0, 10, 7), (0, 37, 0, 200, 30)];
     let mut r = Record {
         columns: columns(&cells, &[2, -2, 3, -4]),
+        outlets: vec![],
         x: 1_000,
         ends: [open(5), open(9)],
         book: Book::default(),

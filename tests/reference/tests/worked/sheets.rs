@@ -87,10 +87,10 @@ fn a_sheet_is_read_and_written_back() {
         discharge: 1_122_867,
     };
     let mut c = Columns::of_cells(1);
-    assert_eq!(open(&FED_SHEET, &mut c), opened([left, right]));
+    assert_eq!(open(&FED_SHEET, &mut c, &mut []), opened([left, right]));
     assert_eq!(c, cell());
     let mut out = [9; 106];
-    let written = write(&c, 1_027, [left, right], Book::default(), &mut out);
+    let written = write(&c, &[], 1_027, [left, right], Book::default(), &mut out);
     assert_eq!(written.refusal, 0);
     assert_eq!(out[..104], FED_SHEET);
     assert_eq!(out[104..], [9, 9]);
@@ -104,6 +104,6 @@ fn a_sheet_with_its_columns_turned_round() {
         ..WALL
     };
     let mut c = Columns::of_cells(1);
-    assert_eq!(open(&TURNED_SHEET, &mut c), opened([WALL, right]));
+    assert_eq!(open(&TURNED_SHEET, &mut c, &mut []), opened([WALL, right]));
     assert_eq!(c, cell());
 }

@@ -15,6 +15,7 @@ fn discharges_are_cut_at_either_side() {
     };
     let mut r = Record {
         columns: columns(&[(0, 0, 0, 0, 0); 2], &[0; 3]),
+        outlets: vec![],
         x: 1_000,
         ends: [fed(800_000_000), fed(-800_000_000)],
         book: Book::default(),
@@ -44,6 +45,7 @@ fn carrying(right_depth: u64, carried: [i64; 3]) -> Record {
     ];
     Record {
         columns: columns(&cells, &carried),
+        outlets: vec![],
         x: 1_000,
         ends: [left, right],
         book: Book::default(),

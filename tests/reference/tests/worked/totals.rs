@@ -50,22 +50,33 @@ fn all_eight_totals() {
         discharge: -9_000_000,
     };
     let mut columns = Columns::of_cells(2);
-    let opened = open(&RUN_SHEET, &mut columns);
+    let opened = open(&RUN_SHEET, &mut columns, &mut []);
     assert_eq!(opened.refusal, 0);
     let mut r = Record {
         columns,
+        outlets: vec![],
         x: opened.x,
         ends: opened.ends,
         book: opened.book,
     };
     assert_eq!(step(&mut r, 100).refusal, 0);
     assert_eq!(step(&mut r, 0).refusal, 10);
-    let set = set_ends(&mut r.columns, r.x, r.ends, r.book, [left, right]);
+    let set = set_ends(
+        &mut r.columns,
+        &mut r.outlets,
+        r.x,
+        r.ends,
+        r.book,
+        [left, right],
+    );
     assert_eq!(set.refusal, 0);
     (r.ends, r.book) = (set.ends, set.book);
-    assert_eq!(greatest_step(&r.columns, r.x, r.ends, r.book).refusal, 0);
+    assert_eq!(
+        greatest_step(&r.columns, &r.outlets, r.x, r.ends, r.book).refusal,
+        0
+    );
     assert_eq!(step(&mut r, 100).refusal, 0);
-    let written = write(&r.columns, r.x, r.ends, r.book, &mut [0; 128]);
+    let written = write(&r.columns, &r.outlets, r.x, r.ends, r.book, &mut [0; 128]);
     assert_eq!(written.refusal, 14);
     assert_eq!(settle(&mut r), 0);
     assert_eq!(

@@ -31,7 +31,7 @@ same-length-6 : tie.Need-same-length-6
 same-length-6 c = search needs
 
 returns : tie.Need-returns
-returns c f = c .before .before .before .before .before .before .before .before .play-moving .ensures f _ _ _
+returns c = c .before .before .before .before .before .before .before .before .play-moving .ensures _ _ _
 
 play-reading-requires : tie.Need-play-reading-requires
 play-reading-requires c κs = search needs
@@ -58,7 +58,7 @@ same-length-13 : tie.Need-same-length-13
 same-length-13 c = search needs
 
 returns-2 : tie.Need-returns-2
-returns-2 c f = c .before .before .play-reading .ensures f _
+returns-2 c = c .before .before .play-reading .ensures _
 
 play-opening-requires : tie.Need-play-opening-requires
 play-opening-requires c κs = search needs
@@ -82,7 +82,7 @@ same-length-19 : tie.Need-same-length-19
 same-length-19 c = search needs
 
 returns-3 : tie.Need-returns-3
-returns-3 c f = c .before .before .before .before .before .before .before .before .before .play-opening .ensures f _ _
+returns-3 c = c .before .before .before .before .before .before .before .before .before .play-opening .ensures _ _
 
 pub play-call-spec : {M : Type 1} → statement M
 play-call-spec =

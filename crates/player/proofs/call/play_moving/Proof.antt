@@ -5,6 +5,7 @@ use lib.ListN.{getD}
 use native.Mathlib.Omega.{arith}
 use borrow.Author.Needs.{needs}
 use Rattle.reach.specs.Reach.{Reach, reachOf}
+use Rattle.script.specs.Script.{freeAt}
 use Rattle.player.proofs.PlayerLaws.{plays-step, plays-transport, plays-setting, is-step, is-transport, is-setting}
 use Rattle.player.proofs.call.play_moving.Statement.{statement}
 use Rattle.player.proofs.call.play_moving.Tie as tie
@@ -15,12 +16,15 @@ given c =
     let a = c .args in
     reachOf (now (a .bed)) (now (a .depth)) (now (a .discharge)) (now (a .mass)) (now (a .base)) (now (a .carried)) (a .x) (a .held)
 
-third : (c : tie.Else2) → let a = c .before .before .before .before .before .before .before .args in getD (now (a .words)) (a .at) 0 ≡ 2
+third : (c : tie.Else2) → let a = c .before .before .before .before .before .before .before .before .args in getD (now (a .words)) (a .at) 0 ≡ 2
 third c =
-    let l = c .before .before .before .before .before .before .before .pre .1 in
+    let l = c .before .before .before .before .before .before .before .before .pre .1 in
     let n = c .before .if1 .left in
     let m = c .if2 .left in
     omega (arith, l, n, m)
+
+with-wants-requires : tie.Need-with-wants-requires
+with-wants-requires c κs = search needs
 
 mul-word : tie.Need-mul-word
 mul-word c = search needs
@@ -56,10 +60,10 @@ same-length-5 : tie.Need-same-length-5
 same-length-5 c = search needs
 
 returns : tie.Need-returns
-returns c f sheets room out =
-    let s = c .before .before .before .before .before .before .before .before .before .before .before .before .before .before .before .before .before .before .before .before .before .before in
+returns c sheets room out =
+    let s = c .before .before .before .before .before .before .before .before .before .before .before .before .before .before .before .before .before .before .before .before .before .before .before in
     let a = s .args in
-    rw (is-step (now (a .words)) sheets room (a .at) (c .before .before .before .before .before .before .before .before .before .before .before .before .before .before .before .before .if1 .taken)) (plays-step (given s) f _ (c .before .before .before .before .before .before .before .before .before .step .ensures) out)
+    rw (is-step (now (a .words)) sheets room (a .at) (c .before .before .before .before .before .before .before .before .before .before .before .before .before .before .before .before .if1 .taken)) (plays-step (given s) (freeAt (now (a .words)) (a .at)) _ (rw (c .before .before .before .before .before .before .before .before .before .before .before .before .before .before .before .before .before .before .with-wants .ensures) at (c .before .before .before .before .before .before .before .before .before .step .ensures)) out)
 
 transport-requires : tie.Need-transport-requires
 transport-requires c κs = search needs
@@ -83,10 +87,10 @@ same-length-10 : tie.Need-same-length-10
 same-length-10 c = search needs
 
 returns-2 : tie.Need-returns-2
-returns-2 c f sheets room out =
-    let s = c .before .before .before .before .before .before .before .before .before .before .before .before .before .before .before .before .before .before .before .before in
+returns-2 c sheets room out =
+    let s = c .before .before .before .before .before .before .before .before .before .before .before .before .before .before .before .before .before .before .before .before .before in
     let a = s .args in
-    rw (is-transport (now (a .words)) sheets room (a .at) (c .before .before .before .before .before .before .before .before .before .before .before .before .before .if2 .taken), c .came-to .ensures) (plays-transport (given s) f (c .before .before .before .before .before .before .before .transport .ensures) out)
+    rw (is-transport (now (a .words)) sheets room (a .at) (c .before .before .before .before .before .before .before .before .before .before .before .before .before .if2 .taken), c .came-to .ensures) (plays-transport (given s) (freeAt (now (a .words)) (a .at)) (rw (c .before .before .before .before .before .before .before .before .before .before .before .before .before .before .before .before .with-wants .ensures) at (c .before .before .before .before .before .before .before .transport .ensures)) out)
 
 boundaries-from-requires : tie.Need-boundaries-from-requires
 boundaries-from-requires c κs = search needs
@@ -113,16 +117,17 @@ same-length-15 : tie.Need-same-length-15
 same-length-15 c = search needs
 
 returns-3 : tie.Need-returns-3
-returns-3 c f sheets room out =
-    let s = c .before .before .before .before .before .before .before .before .before .before .before .before .before .before .before .before .before .before .before .before .before in
+returns-3 c sheets room out =
+    let s = c .before .before .before .before .before .before .before .before .before .before .before .before .before .before .before .before .before .before .before .before .before .before in
     let a = s .args in
-    let e = rw (c .before .before .before .before .before .before .before .before .before .before .before .before .before .boundaries-from .ensures) at (c .before .before .before .before .before .before .before .set-boundaries .ensures) in
-    rw (is-setting (now (a .words)) sheets room (a .at) (third (c .before .before .before .before .before .before .before .before .before .before .before .before .before .before)), c .came-to2 .ensures) (plays-setting (given s) f _ e out)
+    let e = rw (c .before .before .before .before .before .before .before .before .before .before .before .before .before .boundaries-from .ensures, c .before .before .before .before .before .before .before .before .before .before .before .before .before .before .before .before .before .with-wants .ensures) at (c .before .before .before .before .before .before .before .set-boundaries .ensures) in
+    rw (is-setting (now (a .words)) sheets room (a .at) (third (c .before .before .before .before .before .before .before .before .before .before .before .before .before .before)), c .came-to2 .ensures) (plays-setting (given s) (freeAt (now (a .words)) (a .at)) _ e out)
 
 pub play-moving-spec : {M : Type 1} → statement M
 play-moving-spec =
     tie.close
     (tie.spec
+    with-wants-requires
     mul-word
     shared-slice-read-word
     add-t

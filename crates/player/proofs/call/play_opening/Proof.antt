@@ -1,8 +1,10 @@
 -- `player::call::play_opening` meets its contract: the part of the sheets that is lent is the one that the words name. Assumes nothing.
 use mathlib.Core.Path.{sym}
+use Prim.Native.Nat.{_+_}
 use denote.Ref.{now}
 use borrow.Author.Needs.{needs}
 use Rattle.reach.specs.Reach.{Reach, reachOf}
+use Rattle.script.specs.Script.{freeAt, outletsFrom}
 use Rattle.player.proofs.PlayerLaws.{plays-opening, cut-part, is-opening}
 use Rattle.player.proofs.call.play_opening.Statement.{statement}
 use Rattle.player.proofs.call.play_opening.Tie as tie
@@ -40,6 +42,12 @@ least-requires-2 c κs = search needs
 most-requires : tie.Need-most-requires
 most-requires c κs = search needs
 
+add-outlets-from : tie.Need-add-outlets-from
+add-outlets-from c = search needs
+
+outlets-from-requires : tie.Need-outlets-from-requires
+outlets-from-requires c κs = search needs
+
 sub-open-sheet : tie.Need-sub-open-sheet
 sub-open-sheet c = search needs
 
@@ -74,13 +82,13 @@ same-length-6 : tie.Need-same-length-6
 same-length-6 c = search needs
 
 returns : tie.Need-returns
-returns c f room out =
-    let s = c .before .before .before .before .before .before .before .before .before .before .before .before .before .before .before .before .before .before .before .before .before .before .before .before .before .before .before .before in
+returns c room out =
+    let s = c .before .before .before .before .before .before .before .before .before .before .before .before .before .before .before .before .before .before .before .before .before .before .before .before .before .before .before .before .before in
     let a = s .args in
-    let part = cut-part (now (a .sheets)) _ _ _ _ _ (c .before .before .before .before .before .before .before .before .before .before .before .before .before .before .before .before .before .before .before .before .least .ensures) (c .before .before .before .before .before .before .before .before .before .before .before .before .before .before .before .before .before .before .before .least2 .ensures) (c .before .before .before .before .before .before .before .before .before .before .before .before .before .before .before .before .before .before .most .ensures) in
+    let part = cut-part (now (a .sheets)) _ _ _ _ _ (c .before .before .before .before .before .before .before .before .before .before .before .before .before .before .before .before .before .before .before .before .before .least .ensures) (c .before .before .before .before .before .before .before .before .before .before .before .before .before .before .before .before .before .before .before .before .least2 .ensures) (c .before .before .before .before .before .before .before .before .before .before .before .before .before .before .before .before .before .before .before .most .ensures) in
     let o = c .opened in
     rw (is-opening (now (a .words)) (now (a .sheets)) room (a .at) (s .pre .1), sym part)
-    (plays-opening (given s) f _ (o .result) (c .before .before .before .before .before .before .before .before .before .before .open-sheet .ensures) (o .ensures .0) (o .ensures .1) out)
+    (plays-opening (given s) (freeAt (now (a .words)) (a .at)) _ (outletsFrom (now (a .words)) (a .at + 45)) (o .result) (rw (c .before .before .before .before .before .before .before .before .before .before .before .before .before .before .before .before .before .before .outlets-from .ensures) at (c .before .before .before .before .before .before .before .before .before .before .open-sheet .ensures)) (o .ensures .0) (o .ensures .1) out)
 
 pub play-opening-spec : {M : Type 1} → statement M
 play-opening-spec =
@@ -95,6 +103,8 @@ play-opening-spec =
     least-requires
     least-requires-2
     most-requires
+    add-outlets-from
+    outlets-from-requires
     sub-open-sheet
     part-open-sheet-start
     part-open-sheet-end

@@ -6,6 +6,7 @@ use lib.ListN.{length, getD}
 use native.Mathlib.Omega.{arith}
 use borrow.Author.Needs.{needs}
 use Rattle.reach.specs.Reach.{Reach, reachOf}
+use Rattle.script.specs.Script.{freeAt}
 use Rattle.player.proofs.PlayerLaws.{plays-greatest, plays-write, taken-length, is-greatest, is-write}
 use Rattle.player.proofs.call.play_reading.Statement.{statement}
 use Rattle.player.proofs.call.play_reading.Tie as tie
@@ -16,14 +17,17 @@ given c =
     let a = c .args in
     reachOf (now (a .bed)) (now (a .depth)) (now (a .discharge)) (now (a .mass)) (now (a .base)) (now (a .carried)) (a .x) (a .held)
 
-fourth : (c : tie.Else1) → let a = c .before .before .before .before .before .before .before .args in getD (now (a .words)) (a .at) 0 ≡ 4
+fourth : (c : tie.Else1) → let a = c .before .before .before .before .before .before .before .before .args in getD (now (a .words)) (a .at) 0 ≡ 4
 fourth c =
-    let l = c .before .before .before .before .before .before .before .pre .1 in
+    let l = c .before .before .before .before .before .before .before .before .pre .1 in
     let n = c .if1 .left in
     omega (arith, l, n)
 
-within : (c : tie.After-least) → c .least .result ≤ length (now (c .before .before .before .before .before .before .before .before .before .args .out))
+within : (c : tie.After-least) → c .least .result ≤ length (now (c .before .before .before .before .before .before .before .before .before .before .args .out))
 within c = let e = c .least .ensures in omega (arith, e)
+
+with-wants-requires : tie.Need-with-wants-requires
+with-wants-requires c κs = search needs
 
 mul-word : tie.Need-mul-word
 mul-word c = search needs
@@ -35,10 +39,10 @@ greatest-step-requires : tie.Need-greatest-step-requires
 greatest-step-requires c κs = search needs
 
 returns : tie.Need-returns
-returns c f sheets =
-    let s = c .before .before .before .before .before .before .before .before .before in
+returns c sheets =
+    let s = c .before .before .before .before .before .before .before .before .before .before in
     let a = s .args in
-    rw (is-greatest (now (a .words)) sheets (length (now (a .out))) (a .at) (c .before .before .if1 .taken)) (plays-greatest (given s) f (c .before .greatest-step .ensures) (now (a .out)))
+    rw (is-greatest (now (a .words)) sheets (length (now (a .out))) (a .at) (c .before .before .if1 .taken)) (plays-greatest (given s) (freeAt (now (a .words)) (a .at)) (rw (c .before .before .before .before .with-wants .ensures) at (c .before .greatest-step .ensures)) (now (a .out)))
 
 add-asked : tie.Need-add-asked
 add-asked c = search needs
@@ -68,17 +72,18 @@ same-length : tie.Need-same-length
 same-length c = search needs
 
 returns-2 : tie.Need-returns-2
-returns-2 c f sheets =
-    let s = c .before .before .before .before .before .before .before .before .before .before .before .before .before .before .before in
+returns-2 c sheets =
+    let s = c .before .before .before .before .before .before .before .before .before .before .before .before .before .before .before .before in
     let a = s .args in
     let l = c .before .before .before .before .before .before in
     rw (is-write (now (a .words)) sheets (length (now (a .out))) (a .at) (fourth (c .before .before .before .before .before .before .before .before)), sym (l .least .ensures), c .came-to .ensures)
-    (plays-write (given s) f _ (now (a .out)) _ (sym (taken-length _ _ (within l))) (c .before .before .before .before .write-sheet .ensures))
+    (plays-write (given s) (freeAt (now (a .words)) (a .at)) _ (now (a .out)) _ (sym (taken-length _ _ (within l))) (rw (c .before .before .before .before .before .before .before .before .before .before .with-wants .ensures) at (c .before .before .before .before .write-sheet .ensures)))
 
 pub play-reading-spec : {M : Type 1} → statement M
 play-reading-spec =
     tie.close
     (tie.spec
+    with-wants-requires
     mul-word
     shared-slice-read-word
     greatest-step-requires

@@ -13,6 +13,7 @@ use Rattle.numbers.proofs.SignedLaws.{R, L, abs-parts, abs-fits}
 use Rattle.flux.specs.Limits.{depthMost}
 use Rattle.reach.specs.Grounds.{carriedFits}
 use Rattle.reach.proofs.CarriedLaws.{carried-is}
+use Rattle.reach.proofs.PartsLaws.{sum-single}
 use Rattle.reach.proofs.carried.carried_fits.Statement.{statement}
 use Rattle.reach.proofs.carried.carried_fits.Tie as tie
 
@@ -34,14 +35,14 @@ tests : (c : tie.After-right-part2) →
     let leftOut = c .before .before .left-part .result in
     let rightIn = c .before .left-part2 .result in
     let rightOut = c .right-part2 .result in
-    carriedFits (s .h) (s .b) (s .l) (s .r)
+    carriedFits (s .h) (s .b) (s .l) (s .r) (s .drawn ∷ [])
     ≡ allOf
     (leb (leftIn + leftOut) depthMost
     ∷ leb (rightIn + rightOut) depthMost
-    ∷ eqb (s .h + leftOut + rightOut) (s .b + leftIn + rightIn)
-    ∷ leb (rightOut + leftOut) (s .b)
+    ∷ eqb (s .h + leftOut + rightOut + s .drawn) (s .b + leftIn + rightIn)
+    ∷ leb (rightOut + leftOut + s .drawn) (s .b)
     ∷ []))
-tests c = carried-is _ _ _ _ (left-in (c .before .before .before)) (left-out (c .before .before)) (right-in (c .before)) (right-out c)
+tests c = carried-is _ _ _ _ _ (left-in (c .before .before .before)) (left-out (c .before .before)) (right-in (c .before)) (right-out c) (sum-single _)
 
 right-part-requires : tie.Need-right-part-requires
 right-part-requires c κs = search needs
@@ -83,6 +84,9 @@ add-if3-3 c = search needs
 add-if3-4 : tie.Need-add-if3-4
 add-if3-4 c = search needs
 
+add-if3-5 : tie.Need-add-if3-5
+add-if3-5 c = search needs
+
 returns-3 : tie.Need-returns-3
 returns-3 c =
     sym (tests (c .before .before .before) ∙ on _ _ (le-leb _ _ (c .before .before .if1 .left)) (on _ _ (le-leb _ _ (c .before .if2 .left))
@@ -90,6 +94,9 @@ returns-3 c =
 
 add-result : tie.Need-add-result
 add-result c = search needs
+
+add-result-2 : tie.Need-add-result-2
+add-result-2 c = search needs
 
 returns-4 : tie.Need-returns-4
 returns-4 c =
@@ -112,6 +119,8 @@ carried-fits-spec =
     add-if3-2
     add-if3-3
     add-if3-4
+    add-if3-5
     returns-3
     add-result
+    add-result-2
     returns-4)

@@ -1,90 +1,72 @@
--- `reach::carried::check_carried` meets its contract. Assumes nothing.
-use mathlib.Core.Path.{_≡_, sym, _∙_}
-use mathlib.Core.Bool.{true}
+-- `reach::carried::check_carried` meets its contract: ground 8 says the same of what was drawn and of its sums by cell. Assumes nothing.
+use mathlib.Core.Path.{_≡_, refl, sym, ap, _∙_}
+use mathlib.Core.Bool.{Bool, true}
+use mathlib.Core.List.{List}
+use Prim.Native.Nat.{ℕ, _+_, _≤_, _<_}
+use native.Mathlib.Omega.{arith}
 use denote.Ref.{now}
-use mir.Facts.{toZ-ofZ}
-use lib.IntN.{pos}
+use lib.IntN.{ℤ, pos}
 use lib.ListN.{length, getD}
-use borrow.Author.Needs.{needs, sfits-of}
-use borrow.Author.Tests.{not-true, not-false}
-use Rattle.numbers.proofs.IndexLaws.{on, off, only}
-use Rattle.reach.specs.Grounds.{carriedCellsFit, shutFits, carriedFit}
-use Rattle.reach.proofs.GroundsLaws.{passes, refuses, passed, refused-by}
+use Rattle.numbers.specs.Index.{allOf, tabulate}
+use Rattle.numbers.proofs.IndexLaws.{length-tabulate, getD-tabulate, all-same, zeros}
+use Rattle.outlet.specs.declared.Outlets.{Outlets}
+use Rattle.reach.specs.Parts.{drawnFrom}
+use Rattle.reach.specs.Grounds.{carriedFits, carriedCellsFit, carriedFit, outletsFit, passOr}
+use Rattle.reach.specs.Ranges.{CarriedColumns, alone, cutDrawn}
+use Rattle.reach.proofs.Sound.{outlets-few, outlet-sound}
+use Rattle.reach.proofs.OutletLaws.{cut-most, carried-cut}
+use borrow.Author.Needs.{needs}
 use Rattle.reach.proofs.carried.check_carried.Statement.{statement}
 use Rattle.reach.proofs.carried.check_carried.Tie as tie
 
-cells-fit : (c : tie.After-enum-told) →
-    (let s = c .before .before .before .before .before .args in carriedCellsFit (now (s .depth)) (now (s .base)) (now (s .carried)) ≡ true)
-cells-fit c = passed 8 _ _ (c .before .before .check-carried-cells .ensures) (c .enum-told .given .1)
+-- the column of the cells' sums
+at-cell : (os : Outlets) (d : List ℕ) → d ≡ tabulate 512 (cutDrawn os) → (i : ℕ) → i < 512 → getD d i 0 ≡ cutDrawn os i
+at-cell os d e i l = rw e (getD-tabulate 512 (cutDrawn os) i 0 l)
 
-left-is : (c : tie.After-shut-fits) →
-    (let s = c .before .before .before .before .before .before .before .args in c .shut-fits .result ≡ shutFits (s .left-kind) (getD (now (s .carried)) 0 (pos 0)))
-left-is c = rw (toZ-ofZ (sfits-of (c .before .shut-fits-arg .given))) at (c .shut-fits .ensures)
+same-ground : (h b : List ℕ) (c : List ℤ) (os : Outlets) (d : List ℕ) (left right : ℕ) → CarriedColumns h b c → outletsFit (length h) os ≡ true → d ≡ tabulate 512 (cutDrawn os)
+    → carriedFit h b c (alone d) left right ≡ carriedFit h b c (drawnFrom os) left right
+unfolding carriedFit carriedCellsFit
+same-ground h b c os d left right k f e =
+    let test : (ℕ → List ℕ) → ℕ → Bool = λ (ds : ℕ → List ℕ) (i : ℕ). carriedFits (getD h i 0) (getD b i 0) (getD c i (pos 0)) (getD c (i + 1) (pos 0)) (ds i) in
+    rw (all-same (test (alone d)) (test (drawnFrom os)) (length h) (λ i l.
+    rw (at-cell os d e i (omega (arith, l, k .few)))
+    (carried-cut os (outlets-few (length h) os f) (getD h i 0) (getD b i 0) (getD c i (pos 0)) (getD c (i + 1) (pos 0)) i (k .base i l)))) refl
 
-right-is : (c : tie.After-shut-fits2) →
-    (let s = c .before .before .before .before .before .before .before .before .before .before .args in
-    c .shut-fits2 .result ≡ shutFits (s .right-kind) (getD (now (s .carried)) (length (now (s .depth))) (pos 0)))
-right-is c = rw (toZ-ofZ (sfits-of (c .before .shut-fits-arg2 .given))) at (c .shut-fits2 .ensures)
+slice-aggregate-drawn-by-cell : tie.Need-slice-aggregate-drawn-by-cell
+slice-aggregate-drawn-by-cell c = search needs
 
-check-carried-cells-requires : tie.Need-check-carried-cells-requires
-check-carried-cells-requires c κs = search needs
+drawn-by-cell-requires : tie.Need-drawn-by-cell-requires
+drawn-by-cell-requires c κs =
+    let s = c .before .before .before in
+    let f = s .pre .1 in
+    (outlets-few _ _ f, ((λ k l. omega (arith, outlet-sound _ _ f k l .cell, s .pre .0 .few)), zeros 512))
 
-enum-told : tie.Need-enum-told
-enum-told c = search needs
+slice-aggregate-check-carried-with : tie.Need-slice-aggregate-check-carried-with
+slice-aggregate-check-carried-with c = search needs
 
-enum-told-2 : tie.Need-enum-told-2
-enum-told-2 c = search needs
+check-carried-with-requires : tie.Need-check-carried-with-requires
+check-carried-with-requires c κs =
+    let s = c .before .before .before .before .before .before in
+    let d = c .before .before .drawn-by-cell .ensures in
+    let k = s .pre .0 in
+    record {
+      columns = k;
+      long = omega (arith, k .few, ap length d ∙ length-tabulate 512 (cutDrawn (s .args .outlets)));
+      drawn-most = λ i l. rw (at-cell (s .args .outlets) _ d i (omega (arith, l, k .few))) (cut-most (s .args .outlets) (outlets-few _ _ (s .pre .1)) i);
+    }
 
 returns : tie.Need-returns
-unfolding carriedFit
-returns c = refuses 8 (off _ _ (refused-by 8 _ _ _ (c .before .before .check-carried-cells .ensures) (c .enum-told2 .given .1)))
-
-shared-slice-copy-out-shut-fits : tie.Need-shared-slice-copy-out-shut-fits
-shared-slice-copy-out-shut-fits c = search needs
-
-shut-fits-requires : tie.Need-shut-fits-requires
-shut-fits-requires c κs = search needs
-
-returns-2 : tie.Need-returns-2
-unfolding carriedFit
-returns-2 c = refuses 8 (on _ _ (cells-fit (c .before .before .before)) (off _ _ (sym (left-is (c .before)) ∙ not-true _ (c .if1 .taken))))
-
-mul-shut-fits : tie.Need-mul-shut-fits
-mul-shut-fits c = search needs
-
-shared-slice-copy-out-shut-fits-2 : tie.Need-shared-slice-copy-out-shut-fits-2
-shared-slice-copy-out-shut-fits-2 c = search needs
-
-shut-fits-requires-2 : tie.Need-shut-fits-requires-2
-shut-fits-requires-2 c κs = search needs
-
-returns-3 : tie.Need-returns-3
-unfolding carriedFit
-returns-3 c =
-    refuses 8 (on _ _ (cells-fit (c .before .before .before .before .before .before))
-    (on _ _ (sym (left-is (c .before .before .before .before)) ∙ not-false _ (c .before .before .before .if1 .left))
-    (off _ _ (sym (right-is (c .before)) ∙ not-true _ (c .if2 .taken)))))
-
-returns-4 : tie.Need-returns-4
-unfolding carriedFit
-returns-4 c =
-    passes 8 (on _ _ (cells-fit (c .before .before .before .before .before .before))
-    (on _ _ (sym (left-is (c .before .before .before .before)) ∙ not-false _ (c .before .before .before .if1 .left))
-    (only _ ∙ sym (right-is (c .before)) ∙ not-false _ (c .if2 .left))))
+returns c =
+    let s = c .before .before .before .before .before .before .before in
+    c .check-carried-with .ensures
+    ∙ ap (passOr 8) (same-ground _ _ _ (s .args .outlets) _ _ _ (s .pre .0) (s .pre .1) (c .before .before .before .drawn-by-cell .ensures))
 
 pub check-carried-spec : {M : Type 1} → statement M
 check-carried-spec =
     tie.close
     (tie.spec
-    check-carried-cells-requires
-    enum-told
-    enum-told-2
-    returns
-    shared-slice-copy-out-shut-fits
-    shut-fits-requires
-    returns-2
-    mul-shut-fits
-    shared-slice-copy-out-shut-fits-2
-    shut-fits-requires-2
-    returns-3
-    returns-4)
+    slice-aggregate-drawn-by-cell
+    drawn-by-cell-requires
+    slice-aggregate-check-carried-with
+    check-carried-with-requires
+    returns)

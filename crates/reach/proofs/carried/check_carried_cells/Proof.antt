@@ -14,26 +14,34 @@ use borrow.Author.Tests.{not-true, not-false}
 use Rattle.numbers.specs.Index.{allBelow}
 use Rattle.numbers.proofs.IndexLaws.{all-none, all-more, all-fails}
 use Rattle.reach.specs.Grounds.{carriedFits, carriedCellsFit}
+use Rattle.reach.specs.Ranges.{alone}
 use Rattle.reach.proofs.GroundsLaws.{passes, refuses}
 use Rattle.reach.proofs.carried.check_carried_cells.Statement.{statement}
 use Rattle.reach.proofs.carried.check_carried_cells.Tie as tie
 
-abbrev carriedAt : List ℕ → List ℕ → List ℤ → ℕ → Bool
-carriedAt h b c i = carriedFits (getD h i 0) (getD b i 0) (getD c i (pos 0)) (getD c (i + 1) (pos 0))
+abbrev carriedAt : List ℕ → List ℕ → List ℤ → List ℕ → ℕ → Bool
+carriedAt h b c d i = carriedFits (getD h i 0) (getD b i 0) (getD c i (pos 0)) (getD c (i + 1) (pos 0)) (alone d i)
 
 abbrev Inv-loop : tie.InvT-loop
-Inv-loop h b c n i₀ i = (i ≤ n) × (allBelow i (carriedAt h b c) ≡ true)
+Inv-loop h b c d n i₀ i = (i ≤ n) × (allBelow i (carriedAt h b c d) ≡ true)
 
 abbrev μ-loop : tie.MeasureT-loop
-μ-loop h b c n i₀ i = n - i
+μ-loop h b c d n i₀ i = n - i
 
-cell-is : (c : tie.After-carried-fits Inv-loop μ-loop) → (let s = c .before .before .before .before .before .before .before .before .before .args in
-    c .carried-fits .result ≡ carriedAt (now (s .depth)) (now (s .base)) (now (s .carried)) (c .before .before .before .before .before .before .loop .i))
+-- where a cell is looked at: the turn, and the entry before it
+abbrev turn : tie.After-carried-fits Inv-loop μ-loop → tie.At-loop Inv-loop μ-loop
+turn c = c .before .before .before .before .before .before .before
+
+abbrev entry : tie.At-loop Inv-loop μ-loop → tie.Start Inv-loop μ-loop
+entry c = c .before .before .before .before
+
+cell-is : (c : tie.After-carried-fits Inv-loop μ-loop) → (let s = entry (turn c) .args in
+    c .carried-fits .result ≡ carriedAt (now (s .depth)) (now (s .base)) (now (s .carried)) (now (s .drawn)) (turn c .loop .i))
 cell-is c =
-    let s = c .before .before .before .before .before .before .before .before .before .args in
-    let i = c .before .before .before .before .before .before .loop .i in
-    let left = toZ-ofZ {w = w64} {z = getD (now (s .carried)) i (pos 0)} (sfits-of (c .before .before .carried-fits-arg .given)) in
-    let right = toZ-ofZ {w = w64} {z = getD (now (s .carried)) (i + 1) (pos 0)} (sfits-of (c .before .carried-fits-arg2 .given)) in
+    let s = entry (turn c) .args in
+    let i = turn c .loop .i in
+    let left = toZ-ofZ {w = w64} {z = getD (now (s .carried)) i (pos 0)} (sfits-of (c .before .before .before .carried-fits-arg .given)) in
+    let right = toZ-ofZ {w = w64} {z = getD (now (s .carried)) (i + 1) (pos 0)} (sfits-of (c .before .before .carried-fits-arg2 .given)) in
     rw (left, right) at (c .carried-fits .ensures)
 
 loop-holds : tie.Need-loop-holds Inv-loop μ-loop
@@ -67,17 +75,24 @@ shared-slice-copy-out-carried-fits-2 :
     tie.Need-shared-slice-copy-out-carried-fits-2 Inv-loop μ-loop
 shared-slice-copy-out-carried-fits-2 c = search needs
 
+mul-carried-fits-5 : tie.Need-mul-carried-fits-5 Inv-loop μ-loop
+mul-carried-fits-5 c = search needs
+
+shared-slice-read-carried-fits-3 : tie.Need-shared-slice-read-carried-fits-3 Inv-loop μ-loop
+shared-slice-read-carried-fits-3 c = search needs
+
 carried-fits-requires : tie.Need-carried-fits-requires Inv-loop μ-loop
 carried-fits-requires c κs =
-    let s = c .before .before .before .before .before .before .before .before .pre in
-    let i = c .before .before .before .before .before .loop .i in
-    let l : i < length (now (c .before .before .before .before .before .before .before .before .args .depth)) = omega arith in
-    (s .deep i l, s .base i l)
+    let at = c .before .before .before .before .before .before in
+    let s = entry at .pre in
+    let i = at .loop .i in
+    let l : i < length (now (entry at .args .depth)) = omega arith in
+    (s .columns .deep i l, (s .columns .base i l, s .drawn-most i l))
 
 returns : tie.Need-returns Inv-loop μ-loop
 unfolding carriedCellsFit
 returns c =
-    refuses 8 (all-fails _ _ (c .before .before .before .before .before .before .before .loop .i) (search needs)
+    refuses 8 (all-fails _ _ (turn (c .before) .loop .i) (search needs)
     (sym (cell-is (c .before)) ∙ not-true _ (c .if1 .taken)))
 
 add-i : tie.Need-add-i Inv-loop μ-loop
@@ -88,13 +103,13 @@ loop-less c = search needs
 
 loop-again : tie.Need-loop-again Inv-loop μ-loop
 loop-again c =
-    let l = c .before .before .before .before .before .before .before .loop in
+    let l = turn (c .before) .loop in
     (search needs, all-more _ (l .i) (l .inv .1) (sym (cell-is (c .before)) ∙ not-false _ (c .if1 .left)))
 
 returns-2 : tie.Need-returns-2 Inv-loop μ-loop
 unfolding carriedCellsFit
 returns-2 c =
-    let e : c .before .loop .i ≡ length (now (c .before .before .before .before .args .depth)) = omega arith in
+    let e : c .before .loop .i ≡ length (now (entry (c .before) .args .depth)) = omega arith in
     passes 8 (rw e at (c .before .loop .inv .1))
 
 pub check-carried-cells-spec : {M : Type 1} → statement M
@@ -113,6 +128,8 @@ check-carried-cells-spec =
     add-carried-fits
     mul-carried-fits-4
     shared-slice-copy-out-carried-fits-2
+    mul-carried-fits-5
+    shared-slice-read-carried-fits-3
     carried-fits-requires
     returns
     add-i

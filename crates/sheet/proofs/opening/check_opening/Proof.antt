@@ -8,7 +8,7 @@ use lib.ListN.{length, drop}
 use denote.Ref.{now}
 use borrow.Author.Needs.{needs}
 use Rattle.numbers.specs.Index.{allBelow}
-use Rattle.reach.specs.Grounds.{Ground, firstRefusal, cellLengthFits, boundariesFit, cellsFit, passOr}
+use Rattle.reach.specs.Grounds.{Ground, firstRefusal, cellLengthFits, boundariesFit, cellsFit, outletsFit, passOr}
 use Rattle.reach.specs.declared.boundary.Boundary.{Boundary}
 use Rattle.reach.proofs.GroundsLaws.{passed, refused-by, go-on, stop-at, last-one}
 use Rattle.sheet.specs.Header.{headerSize, countOf, cellLengthOf, boundariesOf, editionFits, sizeFits, columnsClear, spansOf}
@@ -62,7 +62,7 @@ entry c = c .before .before .before .before .before .before .before .before .bef
 
 abbrev grounds : tie.Start → List Ground
 grounds s =
-    let a = s .args in openGrounds (now (a .s)) (a .bed) (a .depth) (a .discharge) (a .mass) (a .base) (a .carried)
+    let a = s .args in openGrounds (now (a .s)) (a .bed) (a .depth) (a .discharge) (a .mass) (a .base) (a .carried) (a .outlets)
 
 after-boundaries : (c : tie.After-enum-told11) → firstRefusal (grounds (entry c)) ≡ firstRefusal (drop 6 (grounds (entry c)))
 after-boundaries c =
@@ -71,13 +71,29 @@ after-boundaries c =
 
 -- ground 7, of the sheet's record
 values : (c : tie.After-check-values) →
-    let r = sheetRecord (sheet (entry (c .before .before))) in c .check-values .result ≡ passOr 7 (cellsFit (r .bed) (r .depth) (r .discharge) (r .mass) (r .base))
+    let e = entry (c .before .before) in
+    let r = sheetRecord (sheet e) (e .args .outlets) in c .check-values .result ≡ passOr 7 (cellsFit (r .bed) (r .depth) (r .discharge) (r .mass) (r .base))
 values c =
     let s = sheet (entry (c .before .before)) in
     let l = c .before .layout-of .result in
     c .check-values .ensures
     ∙ ap (λ (n : ℕ). passOr 7 (allBelow n (cellAt s l))) (c .before .before .before .before .before .before .before .before .before .before .before .before .before .count-of .ensures .0)
-    ∙ ap (passOr 7) (values-are s l (c .before .layout-of .ensures))
+    ∙ ap (passOr 7) (values-are s (entry (c .before .before) .args .outlets) l (c .before .layout-of .ensures))
+
+-- it stands too, so the outlets decide
+after-values : (c : tie.After-enum-told13) →
+    let s = entry (c .before .before .before .before) in firstRefusal (grounds s) ≡ firstRefusal (drop 7 (grounds s))
+after-values c =
+    after-boundaries (c .before .before .before .before)
+    ∙ go-on _ _ (passed 7 _ _ (values (c .before .before)) (c .enum-told13 .given .1)) refl
+
+-- ground 16, of as many cells as the sheet says
+outlets-are : (c : tie.After-check-outlets) →
+    let s = entry (c .before .before .before .before .before) in c .check-outlets .result ≡ passOr 16 (outletsFit (countOf (sheet s)) (s .args .outlets))
+outlets-are c =
+    let s = entry (c .before .before .before .before .before) in
+    c .check-outlets .ensures
+    ∙ ap (λ (n : ℕ). passOr 16 (outletsFit n (s .args .outlets))) (c .before .before .before .before .before .before .before .before .before .before .before .before .before .before .before .before .count-of .ensures .0)
 
 check-edition-requires : tie.Need-check-edition-requires
 check-edition-requires c κs = search needs
@@ -183,8 +199,20 @@ enum-told-14 c = search needs
 returns-7 : tie.Need-returns-7
 returns-7 c = sym (after-boundaries (c .before .before .before .before) ∙ stop-at _ _ (refused-by 7 _ _ _ (values (c .before .before)) (c .enum-told14 .given .1)))
 
+check-outlets-requires : tie.Need-check-outlets-requires
+check-outlets-requires c κs = search needs
+
+enum-told-15 : tie.Need-enum-told-15
+enum-told-15 c = search needs
+
+enum-told-16 : tie.Need-enum-told-16
+enum-told-16 c = search needs
+
 returns-8 : tie.Need-returns-8
-returns-8 c = sym (c .enum-told13 .given .1) ∙ values (c .before .before) ∙ sym (after-boundaries (c .before .before .before .before) ∙ last-one 7 _)
+returns-8 c = sym (after-values (c .before .before .before) ∙ stop-at _ _ (refused-by 16 _ _ _ (outlets-are (c .before .before)) (c .enum-told16 .given .1)))
+
+returns-9 : tie.Need-returns-9
+returns-9 c = sym (c .enum-told15 .given .1) ∙ outlets-are (c .before .before) ∙ sym (after-values (c .before .before .before) ∙ last-one 16 _)
 
 pub check-opening-spec : {M : Type 1} → statement M
 check-opening-spec =
@@ -222,4 +250,8 @@ check-opening-spec =
     enum-told-13
     enum-told-14
     returns-7
-    returns-8)
+    check-outlets-requires
+    enum-told-15
+    enum-told-16
+    returns-8
+    returns-9)

@@ -12,6 +12,7 @@ use Rattle.reach.specs.Grounds.{firstRefusal, numberOf}
 use Rattle.reach.specs.declared.refusal.Check.{Check}
 use Rattle.reach.specs.declared.refusal.Check.the-variants.{Pass}
 use Rattle.reach.proofs.GroundsLaws.{stood}
+use Rattle.reach.proofs.Sound.{outlets-few}
 use Rattle.encoding.specs.FromBytes.{twos, columnAt}
 use Rattle.sheet.specs.Header.{headerSize, countOf}
 use Rattle.sheet.specs.Ranges.{Within}
@@ -21,12 +22,12 @@ use Rattle.sheet.proofs.opening.open_sheet.Statement.{statement}
 use Rattle.sheet.proofs.opening.open_sheet.Tie as tie
 
 abbrev columns : tie.Start → Reach
-columns s = lent (now (s .args .bed)) (now (s .args .depth)) (now (s .args .discharge)) (now (s .args .mass)) (now (s .args .base)) (now (s .args .carried))
+columns s = lent (now (s .args .bed)) (now (s .args .depth)) (now (s .args .discharge)) (now (s .args .mass)) (now (s .args .base)) (now (s .args .carried)) (s .args .outlets)
 
 abbrev grounds : tie.Start → Check
 grounds s =
     let l = columns s in
-    firstRefusal (openGrounds (now (s .args .s)) (length (l .bed)) (length (l .depth)) (length (l .discharge)) (length (l .mass)) (length (l .base)) (length (l .carried)))
+    firstRefusal (openGrounds (now (s .args .s)) (length (l .bed)) (length (l .depth)) (length (l .discharge)) (length (l .mass)) (length (l .base)) (length (l .carried)) (s .args .outlets))
 
 checked : (c : tie.After-enum-told) → grounds (c .before .before .before .before .before .before .before) ≡ Pass
 checked c = sym (c .before .before .check-opening .ensures) ∙ c .enum-told .given .1
@@ -56,7 +57,7 @@ returns c =
     let s = c .before .before .before .before .before .before .before .before in
     let t = c .before .enum-told2 .given in
     stayed (now (s .args .s)) (columns s) (t .0 .0) refl (sym (c .before .before .before .check-opening .ensures) ∙ t .1)
-    (c .unopened .ensures ∙ ap (λ (k : Check). unopenedBy (numberOf k)) (t .1))
+    (c .unopened .ensures ∙ ap (λ (k : Check). unopenedBy (numberOf k) (s .args .outlets)) (t .1))
 
 layout-of-requires : tie.Need-layout-of-requires
 layout-of-requires c κs = long c
@@ -75,7 +76,9 @@ cell-length-of-requires : tie.Need-cell-length-of-requires
 cell-length-of-requires c κs = long (c .before .before .before .before .before .before .before .before .before .before .before .before .before .before .before .before .before)
 
 held-of-requires : tie.Need-held-of-requires
-held-of-requires c κs = long (c .before .before .before .before .before .before .before .before .before .before .before .before .before .before .before .before .before .before)
+held-of-requires c κs =
+    let k = c .before .before .before .before .before .before .before .before .before .before .before .before .before .before .before .before .before .before in
+    (long k, outlets-few _ _ (stood _ (checked k) 7))
 
 same-length : tie.Need-same-length
 same-length c = c .before .before .before .before .before .before .before .before .before .before .before .fill .kept .1 .1 .0

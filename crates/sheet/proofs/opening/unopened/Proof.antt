@@ -24,11 +24,13 @@ enum-told c = search needs
 
 returns : tie.Need-returns
 returns c =
-    ap (put 0) (c .before .before .none-held .ensures) ∙ ap (λ (k : Check). unopenedBy (numberOf k)) (sym (c .enum-told .given .1))
+    let a = c .before .before .before .args in
+    ap (put 0) (c .before .before .none-held .ensures) ∙ ap (λ (k : Check). unopenedBy (numberOf k) (a .outlets)) (sym (c .enum-told .given .1))
 
 returns-2 : tie.Need-returns-2
 returns-2 c =
-    ap (put _) (c .before .before .before .none-held .ensures) ∙ ap (λ (k : Check). unopenedBy (numberOf k)) (sym (c .before .k .given .1))
+    let a = c .before .before .before .before .args in
+    ap (put _) (c .before .before .before .none-held .ensures) ∙ ap (λ (k : Check). unopenedBy (numberOf k) (a .outlets)) (sym (c .before .k .given .1))
 
 pub unopened-spec : {M : Type 1} → statement M
 unopened-spec = tie.close (tie.spec none-held-requires enum-known-k enum-told returns returns-2)

@@ -10,7 +10,6 @@ use Rattle.reach.specs.Limits.{totalMost}
 use Rattle.reach.specs.declared.ledger.Totals.{Totals}
 use Rattle.reach.proofs.Sound.{totals-sound, ledger-left, ledger-right}
 use Rattle.transport.specs.Calls.{ledgerWith, withMass}
-use Rattle.transport.proofs.CallsLaws.{enters, enters-not}
 use Rattle.update.specs.Step.{withWater, withBoundaryWater}
 use borrow.Author.Needs.{needs}
 use Rattle.stepping.proofs.ledger.enter_step.Statement.{statement}
@@ -105,14 +104,8 @@ with-water-requires-2 c κs =
     let n = abs-parts (s .args .last) in
     (w .0, (w .1, (omega (arith, last-left (c .before), n, s .pre .1 .1), omega (arith, last-right c, n, s .pre .1 .1))))
 
-ledger-fits-requires : tie.Need-ledger-fits-requires
-ledger-fits-requires c κs = search needs
-
 returns : tie.Need-returns
-returns c = enters _ (next-is (c .before .before)) (sym (c .before .ledger-fits .ensures) ∙ c .if1 .taken)
-
-returns-2 : tie.Need-returns-2
-returns-2 c = enters-not _ (next-is (c .before .before)) (sym (c .before .ledger-fits .ensures) ∙ c .if1 .left)
+returns c = next-is c
 
 pub enter-step-spec : {M : Type 1} → statement M
 enter-step-spec =
@@ -126,6 +119,4 @@ enter-step-spec =
     left-part-requires-2
     right-part-requires-2
     with-water-requires-2
-    ledger-fits-requires
-    returns
-    returns-2)
+    returns)

@@ -1,12 +1,13 @@
 -- `stepping::transporting::covers` meets its contract. Assumes nothing.
 use mathlib.Core.Path.{_≡_, ap}
+use mathlib.Core.List.{[], _∷_}
 use Prim.Native.Nat.{ℕ}
 use native.Mathlib.Omega.{arith}
 use lib.Dec.{leb}
 use mir.Facts.{toZ-ofZ}
 use borrow.Author.Needs.{needs}
 use Rattle.numbers.proofs.SignedLaws.{R, L, abs-parts}
-use Rattle.reach.proofs.PartsLaws.{outflow-is}
+use Rattle.reach.proofs.PartsLaws.{outflow-is, sum-single}
 use Rattle.stepping.proofs.transporting.covers.Statement.{statement}
 use Rattle.stepping.proofs.transporting.covers.Tie as tie
 
@@ -25,12 +26,17 @@ left-part-requires c κs = search needs
 add-result : tie.Need-add-result
 add-result c =
     let s = c .before .before in
-    omega (arith, over-right (c .before), over-left c, abs-parts (s .args .right), abs-parts (s .args .left), s .pre .0, s .pre .1)
+    omega (arith, over-right (c .before), over-left c, abs-parts (s .args .right), abs-parts (s .args .left), s .pre .0, s .pre .1 .0)
+
+add-result-2 : tie.Need-add-result-2
+add-result-2 c =
+    let s = c .before .before in
+    omega (arith, over-right (c .before), over-left c, abs-parts (s .args .right), abs-parts (s .args .left), s .pre .0, s .pre .1 .0, s .pre .1 .1)
 
 returns : tie.Need-returns
 returns c =
     let s = c .before .before .args in
-    ap (λ (n : ℕ). leb n (s .b)) (omega (arith, over-right (c .before), over-left c, outflow-is (s .left) (s .right)))
+    ap (λ (n : ℕ). leb n (s .b)) (omega (arith, over-right (c .before), over-left c, outflow-is (s .left) (s .right) (s .drawn ∷ []), sum-single (s .drawn)))
 
 pub covers-spec : {M : Type 1} → statement M
-covers-spec = tie.close (tie.spec right-part-requires left-part-requires add-result returns)
+covers-spec = tie.close (tie.spec right-part-requires left-part-requires add-result add-result-2 returns)

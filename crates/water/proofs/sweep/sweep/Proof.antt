@@ -2,7 +2,7 @@
 -- the definitions say. Assumes nothing.
 use mathlib.Core.Path.{_≡_, refl, sym, ap, ap₂, _∙_}
 use mathlib.Core.Bool.{Bool, _&&_}
-use Prim.Native.Nat.{ℕ, suc, _+_, _-_, _*_, _≤_, _<_}
+use Prim.Native.Nat.{ℕ, suc, _+_, _-_, _*_, _≤_, _<_, min}
 use native.Mathlib.Numerals.{add-one}
 use native.Mathlib.Omega.{arith}
 use denote.Ref.{now}
@@ -18,43 +18,58 @@ use Rattle.numbers.proofs.IndexLaws.{Written, written-none, written-first, writ
 use Rattle.reach.specs.Reach.{Reach, cells}
 use Rattle.reach.specs.Grounds.{passOr}
 use Rattle.water.specs.Sides.{cellSide, boundarySide, leftSide, rightSide}
-use Rattle.water.specs.Water.{netAt, newDepth, newDischarge}
-use Rattle.water.specs.Ranges.{sideOf, SideStateFits, ExchangeOf, ExchangeFits, flowOf, sideMeets, sidesMeet}
-use Rattle.water.proofs.WaterLaws.{right-side-cell, exchange-at, left-side-next, right-side-next, net-by-crossing, depth-by-crossings, discharge-by-crossings, meets-more}
+use Rattle.water.specs.Water.{netAt}
+use Rattle.water.specs.Ranges.{sideOf, SideStateFits, ExchangeOf, ExchangeFits, flowOf, sideMeets, sidesMeet, granted, grantedDepth, grantedDischarge}
+use Rattle.water.proofs.WaterLaws.{right-side-cell, exchange-at, left-side-next, right-side-next, net-by-crossing, grant-by-crossings, depth-by-crossings, discharge-by-crossings, meets-more}
 use Rattle.water.proofs.sweep.sweep.Statement.{statement}
 use Rattle.water.proofs.sweep.sweep.Tie as tie
 
 abbrev Inv-loop : tie.InvT-loop
-Inv-loop t x z h q net₀ depth₀ discharge₀ boundaries n cell₀ met₀ left₀ i₀ net depth discharge cell met left i =
+Inv-loop t x z h q wanted net₀ given₀ depth₀ discharge₀ boundaries n cell₀ met₀ left₀ i₀ net given depth discharge cell met left i =
     let s = flowOf z h q x boundaries in
     (i ≤ n)
     × Written (pos 0) (netAt s t) net₀ (i + 1) net
-    × Written 0 (λ k. positive (newDepth s t k)) depth₀ i depth
-    × Written (pos 0) (newDischarge s t) discharge₀ i discharge
+    × Written 0 (λ k. positive (grantedDepth s t (getD wanted k 0) k)) depth₀ i depth
+    × Written (pos 0) (λ k. grantedDischarge s t (getD wanted k 0) k) discharge₀ i discharge
     × SideStateFits cell
     × (sideOf cell ≡ rightSide s i)
     × ExchangeOf t x (leftSide s i) (rightSide s i) (left .rightward) (left .leftward) (left .momentum) (left .«lost_left») (left .«lost_right»)
     × ExchangeFits left
     × (met ≡ (sideMeets t x (leftSide s 0) && allBelow (i + 1) (λ k. sideMeets t x (rightSide s k))))
+    × Written 0 (λ k. granted s t (getD wanted k 0) k) given₀ i given
 
 abbrev μ-loop : tie.MeasureT-loop
-μ-loop t x z h q net₀ depth₀ discharge₀ boundaries n cell₀ met₀ left₀ i₀ net depth discharge cell met left i = n - i
+μ-loop t x z h q wanted net₀ given₀ depth₀ discharge₀ boundaries n cell₀ met₀ left₀ i₀ net given depth discharge cell met left i = n - i
 
 abbrev entry : tie.After-net-of Inv-loop μ-loop → tie.Start Inv-loop μ-loop
-entry c = c .before .before .before .before .before .before .before .before .before .before .before .before
+entry c = c .before .before .before .before .before .before .before .before .before .before .before .before .before .before
 
 abbrev start : tie.In-loop Inv-loop μ-loop → tie.Start Inv-loop μ-loop
 start c = entry (c .before .before)
+
+-- the turn of an interface, of what a cell gives, and of what it is left with
+abbrev turn : tie.After-exchange-between2 Inv-loop μ-loop → tie.In-loop Inv-loop μ-loop
+turn c = c .before .before .before
+
+abbrev gives : tie.After-granted-of Inv-loop μ-loop → tie.After-exchange-between2 Inv-loop μ-loop
+gives c = c .before .before .before
+
+abbrev left-with : tie.After-depth-after Inv-loop μ-loop → tie.After-granted-of Inv-loop μ-loop
+left-with c = c .before .before
+
+-- where the entries of a cell are written
+abbrev cell-at : tie.After-net-of2 Inv-loop μ-loop → tie.In-loop Inv-loop μ-loop
+cell-at c = turn (gives (left-with (c .before .before)))
 
 abbrev flow : tie.Start Inv-loop μ-loop → Reach
 flow s = flowOf (now (s .args .bed)) (now (s .args .depth)) (now (s .args .discharge)) (s .args .x) (s .args .t6)
 
 -- the first cell and the left boundary beside it
-first : (c : tie.After-cell-state Inv-loop μ-loop) → SideStateFits (c .cell-state .result) × (sideOf (c .cell-state .result) ≡ cellSide (flow (c .before .before .before .before .before .before)) 0)
+first : (c : tie.After-cell-state Inv-loop μ-loop) → SideStateFits (c .cell-state .result) × (sideOf (c .cell-state .result) ≡ cellSide (flow (c .before .before .before .before .before .before .before .before)) 0)
 unfolding cellSide
 first c = rw (toZ-ofZ (sfits-of (c .before .before .before .cell-state-arg .given)), toZ-ofZ (sfits-of (c .before .cell-state-arg2 .given))) at (c .cell-state .ensures)
 
-beyond : (c : tie.After-boundary-state Inv-loop μ-loop) → SideStateFits (c .boundary-state .result) × (sideOf (c .boundary-state .result) ≡ leftSide (flow (c .before .before .before .before .before .before .before .before)) 0)
+beyond : (c : tie.After-boundary-state Inv-loop μ-loop) → SideStateFits (c .boundary-state .result) × (sideOf (c .boundary-state .result) ≡ leftSide (flow (c .before .before .before .before .before .before .before .before .before .before)) 0)
 unfolding leftSide
 beyond c = (c .boundary-state .ensures .0, c .boundary-state .ensures .1 ∙ ap (boundarySide _ _) (first (c .before .before) .1))
 
@@ -104,29 +119,29 @@ shared-slice-copy-out-cell-state-2 c = omega arith
 
 cell-state-requires : tie.Need-cell-state-requires Inv-loop μ-loop
 cell-state-requires c κs =
-    let p = c .before .before .before .before .before .pre .0 .1 in
+    let p = c .before .before .before .before .before .before .before .pre .0 .1 in
     rw (toZ-ofZ (sfits-of (c .before .before .cell-state-arg .given)), toZ-ofZ (sfits-of (c .cell-state-arg2 .given))) (p .cell 0 (p .some))
 
 array-copy-out-boundary-state : tie.Need-array-copy-out-boundary-state Inv-loop μ-loop
 array-copy-out-boundary-state c = omega arith
 
 boundary-state-requires : tie.Need-boundary-state-requires Inv-loop μ-loop
-boundary-state-requires c κs = (first (c .before) .0, c .before .before .before .before .before .before .before .pre .0 .1 .left)
+boundary-state-requires c κs = (first (c .before) .0, c .before .before .before .before .before .before .before .before .before .pre .0 .1 .left)
 
 still-meets-requires : tie.Need-still-meets-requires Inv-loop μ-loop
-still-meets-requires c κs = (c .before .before .before .before .before .before .before .before .pre .0 .0, beyond c .0)
+still-meets-requires c κs = (c .before .before .before .before .before .before .before .before .before .before .pre .0 .0, beyond c .0)
 
 still-meets-requires-2 : tie.Need-still-meets-requires-2 Inv-loop μ-loop
-still-meets-requires-2 c κs = (c .before .before .before .before .before .before .before .before .before .pre .0 .0, first (c .before .before .before) .0)
+still-meets-requires-2 c κs = (c .before .before .before .before .before .before .before .before .before .before .before .pre .0 .0, first (c .before .before .before) .0)
 
 exchange-between-requires : tie.Need-exchange-between-requires Inv-loop μ-loop
-exchange-between-requires c κs = (c .before .before .before .before .before .before .before .before .before .before .pre .0 .0, (beyond (c .before .before) .0, first (c .before .before .before .before) .0))
+exchange-between-requires c κs = (c .before .before .before .before .before .before .before .before .before .before .before .before .pre .0 .0, (beyond (c .before .before) .0, first (c .before .before .before .before) .0))
 
 net-of-requires : tie.Need-net-of-requires Inv-loop μ-loop
 net-of-requires c κs = c .exchange-between .ensures .1
 
 slice-set-from-net : tie.Need-slice-set-from-net Inv-loop μ-loop
-slice-set-from-net c = let p = entry c .pre .1 .0 in omega (arith, p)
+slice-set-from-net c = let p = entry c .pre .1 .1 .0 in omega (arith, p)
 
 loop-holds : tie.Need-loop-holds Inv-loop μ-loop
 unfolding allBelow
@@ -140,7 +155,7 @@ loop-holds c =
     let k = exchange-at (b .1) r (e .0) in
     let meets = sideMeets (s .args .t) (s .args .x) in (
       omega arith,
-      written-first (pos 0) (netAt (flow s) (s .args .t)) (now (s .args .net)) (stored c) (omega (arith, s .pre .1 .0)) (toZ-ofZ (sfits-of (c .net-of .ok)) ∙ c .net-of .ensures ∙ sym (net-by-crossing (flow s) (s .args .t) 0 k)),
+      written-first (pos 0) (netAt (flow s) (s .args .t)) (now (s .args .net)) (stored c) (omega (arith, s .pre .1 .1 .0)) (toZ-ofZ (sfits-of (c .net-of .ok)) ∙ c .net-of .ensures ∙ sym (net-by-crossing (flow s) (s .args .t) 0 k)),
       written-none _ _ _,
       written-none _ _ _,
       a .0,
@@ -148,6 +163,7 @@ loop-holds c =
       k,
       e .1,
       c .before .before .still-meets2 .ensures ∙ ap₂ _&&_ (c .before .before .before .still-meets .ensures ∙ ap meets (b .1)) (ap meets r),
+      written-none _ _ _,
     )
 
 array-copy-out-right-side : tie.Need-array-copy-out-right-side Inv-loop μ-loop
@@ -164,107 +180,145 @@ right-side-requires c κs =
 exchange-between-requires-2 : tie.Need-exchange-between-requires-2 Inv-loop μ-loop
 exchange-between-requires-2 c κs = (start (c .before .before) .pre .0 .0, (c .before .before .before .loop .inv .4, next c .0))
 
+mul-granted-of : tie.Need-mul-granted-of Inv-loop μ-loop
+mul-granted-of c = let l = index (turn c) in omega (arith, l .1)
+
+shared-slice-read-granted-of : tie.Need-shared-slice-read-granted-of Inv-loop μ-loop
+shared-slice-read-granted-of c =
+    let k = turn (c .before) in
+    let l = index k in
+    omega (arith, l .0, start k .pre .0 .1 .depths)
+
+mul-granted-of-2 : tie.Need-mul-granted-of-2 Inv-loop μ-loop
+mul-granted-of-2 c = let l = index (turn (c .before)) in omega (arith, l .1)
+
+shared-slice-read-granted-of-2 : tie.Need-shared-slice-read-granted-of-2 Inv-loop μ-loop
+shared-slice-read-granted-of-2 c =
+    let k = turn (c .before .before) in
+    let l = index k in
+    omega (arith, l .0, start k .pre .1 .0 .0)
+
+granted-of-requires : tie.Need-granted-of-requires Inv-loop μ-loop
+granted-of-requires c κs = (turn (c .before .before) .before .loop .inv .7, crossing (c .before .before) .1)
+
 mul-depth-after : tie.Need-mul-depth-after Inv-loop μ-loop
-mul-depth-after c = let l = index (c .before .before .before) in omega (arith, l .1)
+mul-depth-after c = let l = index (turn (gives c)) in omega (arith, l .1)
 
 shared-slice-read-depth-after : tie.Need-shared-slice-read-depth-after Inv-loop μ-loop
 shared-slice-read-depth-after c =
-    let k = c .before .before .before .before in
+    let k = turn (gives (c .before)) in
     let l = index k in
     omega (arith, l .0, start k .pre .0 .1 .depths)
 
 depth-after-requires : tie.Need-depth-after-requires Inv-loop μ-loop
 depth-after-requires c κs =
-    let k = c .before .before .before .before in
-    (start k .pre .0 .1 .cell (k .before .loop .i) (index k .0) .1 .0, (k .before .loop .inv .7, crossing (c .before) .1))
+    let k = turn (gives (c .before)) in
+    (start k .pre .0 .1 .cell (k .before .loop .i) (index k .0) .1 .0, (omega (arith, c .before .granted-of .ensures), (k .before .loop .inv .7, crossing (gives (c .before)) .1)))
 
 still-meets-requires-3 : tie.Need-still-meets-requires-3 Inv-loop μ-loop
-still-meets-requires-3 c κs = (start (c .before .before .before .before .before) .pre .0 .0, next (c .before .before .before) .0)
+still-meets-requires-3 c κs = let g = gives (left-with c) in (start (turn g) .pre .0 .0, next (g .before) .0)
 
 net-of-requires-2 : tie.Need-net-of-requires-2 Inv-loop μ-loop
-net-of-requires-2 c κs = crossing (c .before .before .before) .1
+net-of-requires-2 c κs = crossing (gives (left-with (c .before))) .1
 
 add-new-discharge : tie.Need-add-new-discharge Inv-loop μ-loop
-add-new-discharge c = let l = index (c .before .before .before .before .before .before .before) in omega (arith, l .1)
+add-new-discharge c = let l = index (cell-at c) in omega (arith, l .1)
 
 mul-new-discharge : tie.Need-mul-new-discharge Inv-loop μ-loop
-mul-new-discharge c = let l = index (c .before .before .before .before .before .before .before) in omega (arith, l .1)
+mul-new-discharge c = let l = index (cell-at c) in omega (arith, l .1)
 
 slice-set-from-new-discharge : tie.Need-slice-set-from-new-discharge Inv-loop μ-loop
 slice-set-from-new-discharge c =
-    let k = c .before .before .before .before .before .before .before in
+    let k = cell-at c in
     let l = index k in
-    omega (arith, l .0, start k .pre .1 .0, net-length k)
+    omega (arith, l .0, start k .pre .1 .1 .0, net-length k)
+
+mul-given : tie.Need-mul-given Inv-loop μ-loop
+mul-given c = let l = index (cell-at c) in omega (arith, l .1)
+
+slice-write-given : tie.Need-slice-write-given Inv-loop μ-loop
+slice-write-given c =
+    let k = cell-at c in
+    let l = index k in
+    omega (arith, l .0, start k .pre .1 .0 .1, k .before .loop .inv .9 .long)
 
 mul-new-depth : tie.Need-mul-new-depth Inv-loop μ-loop
-mul-new-depth c = let l = index (c .before .before .before .before .before .before .before) in omega (arith, l .1)
+mul-new-depth c = let l = index (cell-at c) in omega (arith, l .1)
 
 slice-write-new-depth : tie.Need-slice-write-new-depth Inv-loop μ-loop
 slice-write-new-depth c =
-    let k = c .before .before .before .before .before .before .before in
+    let k = cell-at c in
     let l = index k in
-    omega (arith, l .0, start k .pre .1 .1 .0, k .before .loop .inv .2 .long)
+    omega (arith, l .0, start k .pre .1 .1 .1 .0, k .before .loop .inv .2 .long)
 
 mul-momentum-after : tie.Need-mul-momentum-after Inv-loop μ-loop
-mul-momentum-after c = let l = index (c .before .before .before .before .before .before .before) in omega (arith, l .1)
+mul-momentum-after c = let l = index (cell-at c) in omega (arith, l .1)
 
 shared-slice-copy-out-momentum-after :
     tie.Need-shared-slice-copy-out-momentum-after Inv-loop μ-loop
 shared-slice-copy-out-momentum-after c =
-    let k = c .before .before .before .before .before .before .before in
+    let k = cell-at c in
     let l = index k in
     omega (arith, l .0, start k .pre .0 .1 .discharges)
 
 momentum-after-requires : tie.Need-momentum-after-requires Inv-loop μ-loop
 momentum-after-requires c κs =
-    let k = c .before .before .before .before .before .before .before .before in
+    let d = c .before .before .before in
+    let k = cell-at (c .before) in
     let i = k .before .loop .i in
     let f = start k .pre .0 .1 .cell i (index k .0) .1 in
     let l = k .before .loop .inv .7 in
-    let r = crossing (c .before .before .before .before .before) .1 in
+    let r = crossing (gives (left-with d)) .1 in
     rw (toZ-ofZ (sfits-of (c .momentum-after-arg .given))) (
       omega (arith, f .0, f .1),
-      (omega (arith, f .0, l .rightward-most, r .leftward-most, c .before .before .before .depth-after .ensures), (l, r)),
+      (omega (arith, f .0, l .rightward-most, r .leftward-most, d .depth-after .ensures), (l, r)),
     )
 
-mul-t40 : tie.Need-mul-t40 Inv-loop μ-loop
-mul-t40 c = let l = index (c .before .before .before .before .before .before .before .before .before) in omega (arith, l .1)
+mul-t42 : tie.Need-mul-t42 Inv-loop μ-loop
+mul-t42 c = let l = index (cell-at (c .before .before)) in omega (arith, l .1)
 
 slice-set-from-new-discharge-2 : tie.Need-slice-set-from-new-discharge-2 Inv-loop μ-loop
 slice-set-from-new-discharge-2 c =
-    let k = c .before .before .before .before .before .before .before .before .before in
+    let k = cell-at (c .before .before) in
     let l = index k in
-    omega (arith, l .0, start k .pre .1 .1 .1, k .before .loop .inv .3 .long)
+    omega (arith, l .0, start k .pre .1 .1 .1 .1, k .before .loop .inv .3 .long)
 
 add-i : tie.Need-add-i Inv-loop μ-loop
-add-i c = let l = index (c .before .before .before .before .before .before .before .before .before) in omega (arith, l .1)
+add-i c = let l = index (cell-at (c .before .before)) in omega (arith, l .1)
 
 loop-less : tie.Need-loop-less Inv-loop μ-loop
-loop-less c = let l = index (c .before .before .before .before .before .before .before .before .before) in omega (arith, l .0)
+loop-less c = let l = index (cell-at (c .before .before)) in omega (arith, l .0)
 
 loop-again : tie.Need-loop-again Inv-loop μ-loop
 loop-again c =
-    let k = c .before .before .before .before .before .before .before .before .before in
+    let m = c .before .before in
+    let d = m .before .before in
+    let g = gives (left-with d) in
+    let k = turn g in
     let i = k .before .loop .i in
     let w = k .before .loop .inv in
     let s = flow (start k) in
     let a = start k .args in
     let l = index k .0 in
-    let n = next (c .before .before .before .before .before .before .before) in
-    let r = crossing (c .before .before .before .before .before .before) in
-    let depth = c .before .before .before .before .depth-after .ensures in (
+    let n = next (g .before) in
+    let r = crossing g in
+    let want : ℕ → ℕ = λ j. getD (now (a .wanted)) j 0 in
+    let taken = left-with d .granted-of .ensures in
+    let depth = rw taken at (d .depth-after .ensures) in (
       omega (arith, l),
-      written-more (pos 0) (netAt s (a .t)) _ (i + 1) _ _ (w .1) (omega (arith, l, start k .pre .1 .0, net-length k, w .1 .long))
-          (toZ-ofZ (sfits-of (c .before .before .net-of2 .ok)) ∙ c .before .before .net-of2 .ensures ∙ sym (net-by-crossing s (a .t) (i + 1) (r .0))),
-      written-more 0 (λ j. positive (newDepth s (a .t) j)) _ i _ _ (w .2) (omega (arith, l, start k .pre .1 .1 .0))
-          (depth ∙ sym (depth-by-crossings s (a .t) i l (w .6) (r .0))),
-      written-more (pos 0) (newDischarge s (a .t)) _ i _ _ (w .3) (omega (arith, l, start k .pre .1 .1 .1))
-          (toZ-ofZ (sfits-of (c .momentum-after .ok)) ∙ rw (toZ-ofZ (sfits-of (c .before .momentum-after-arg .given)), depth) at (c .momentum-after .ensures) ∙ sym (discharge-by-crossings s (a .t) i l (w .6) (r .0))),
+      written-more (pos 0) (netAt s (a .t)) _ (i + 1) _ _ (w .1) (omega (arith, l, start k .pre .1 .1 .0, net-length k, w .1 .long))
+          (toZ-ofZ (sfits-of (m .net-of2 .ok)) ∙ m .net-of2 .ensures ∙ sym (net-by-crossing s (a .t) (i + 1) (r .0))),
+      written-more 0 (λ j. positive (grantedDepth s (a .t) (want j) j)) _ i _ _ (w .2) (omega (arith, l, start k .pre .1 .1 .1 .0))
+          (depth ∙ sym (depth-by-crossings s (a .t) i l (w .6) (r .0) (want i))),
+      written-more (pos 0) (λ j. grantedDischarge s (a .t) (want j) j) _ i _ _ (w .3) (omega (arith, l, start k .pre .1 .1 .1 .1))
+          (toZ-ofZ (sfits-of (c .momentum-after .ok)) ∙ rw (toZ-ofZ (sfits-of (c .before .momentum-after-arg .given)), depth) at (c .momentum-after .ensures) ∙ sym (discharge-by-crossings s (a .t) i l (w .6) (r .0) (want i))),
       n .0,
       n .1,
       r .0,
       r .1,
-      c .before .before .before .still-meets3 .ensures ∙ ap₂ _&&_ (w .8) (ap (sideMeets (a .t) (a .x)) (n .1)) ∙ meets-more (sideMeets (a .t) (a .x) (leftSide s 0)) (λ j. sideMeets (a .t) (a .x) (rightSide s j)) i,
+      m .before .still-meets3 .ensures ∙ ap₂ _&&_ (w .8) (ap (sideMeets (a .t) (a .x)) (n .1)) ∙ meets-more (sideMeets (a .t) (a .x) (leftSide s 0)) (λ j. sideMeets (a .t) (a .x) (rightSide s j)) i,
+      written-more 0 (λ j. granted s (a .t) (want j) j) _ i _ _ (w .9) (omega (arith, l, start k .pre .1 .0 .1))
+          (taken ∙ sym (grant-by-crossings s (a .t) i l (w .6) (r .0) (want i))),
     )
 
 check-cfl-requires : tie.Need-check-cfl-requires Inv-loop μ-loop
@@ -276,10 +330,13 @@ same-length c =
     k .loop .inv .1 .long ∙ length-set (now (entry (k .before) .args .net)) 0 (stored (k .before))
 
 same-length-2 : tie.Need-same-length-2 Inv-loop μ-loop
-same-length-2 c = c .before .before .loop .inv .2 .long
+same-length-2 c = c .before .before .loop .inv .9 .long
 
 same-length-3 : tie.Need-same-length-3 Inv-loop μ-loop
-same-length-3 c = c .before .before .loop .inv .3 .long
+same-length-3 c = c .before .before .loop .inv .2 .long
+
+same-length-4 : tie.Need-same-length-4 Inv-loop μ-loop
+same-length-4 c = c .before .before .loop .inv .3 .long
 
 returns : tie.Need-returns Inv-loop μ-loop
 unfolding sidesMeet
@@ -289,11 +346,15 @@ returns c =
     let s = flow (entry (k .before)) in
     let e : k .loop .i ≡ cells s = omega (arith, c .before .loop-test .left, w .0) in (
       c .check-cfl .ensures ∙ ap (passOr 11) (rw (e, add-one (cells s)) at (w .8)),
-      record {
-        nets = λ i l. w .1 .done i (omega arith);
-        depths = λ i l. w .2 .done i (omega arith);
-        discharges = λ i l. w .3 .done i (omega arith);
-      },
+      (
+        record {
+          nets = λ i l. w .1 .done i (omega arith);
+          grants = λ i l. w .9 .done i (omega arith);
+          depths = λ i l. w .2 .done i (omega arith);
+          discharges = λ i l. w .3 .done i (omega arith);
+        },
+        λ i l. w .9 .same i (omega arith),
+      ),
     )
 
 pub sweep-spec : {M : Type 1} → statement M
@@ -318,6 +379,11 @@ sweep-spec =
     add-right-side
     right-side-requires
     exchange-between-requires-2
+    mul-granted-of
+    shared-slice-read-granted-of
+    mul-granted-of-2
+    shared-slice-read-granted-of-2
+    granted-of-requires
     mul-depth-after
     shared-slice-read-depth-after
     depth-after-requires
@@ -326,12 +392,14 @@ sweep-spec =
     add-new-discharge
     mul-new-discharge
     slice-set-from-new-discharge
+    mul-given
+    slice-write-given
     mul-new-depth
     slice-write-new-depth
     mul-momentum-after
     shared-slice-copy-out-momentum-after
     momentum-after-requires
-    mul-t40
+    mul-t42
     slice-set-from-new-discharge-2
     add-i
     loop-less
@@ -340,4 +408,5 @@ sweep-spec =
     same-length
     same-length-2
     same-length-3
+    same-length-4
     returns)

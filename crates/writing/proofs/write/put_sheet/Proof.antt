@@ -6,6 +6,7 @@ use native.Mathlib.Omega.{arith}
 use lib.ListN.{length}
 use denote.Ref.{now}
 use borrow.Author.Needs.{needs}
+use Rattle.outlet.specs.Outlets.{noOutlets}
 use Rattle.reach.specs.Reach.{reachOf, heldWith}
 use Rattle.sheet.specs.Header.{sheetSize}
 use Rattle.sheet.specs.Opening.{emptyLedger}
@@ -73,7 +74,7 @@ returns : tie.Need-returns
 returns c =
     let s = c .before .before .before .before .before .before .before .before .before .before .before .before .before .before .before .before .before .before .before .before .before .before .before in
     let a = s .args in
-    sheet-written (reachOf (now (a .bed)) (now (a .depth)) (now (a .discharge)) (now (a .mass)) [] [] (a .x) (heldWith (a .boundaries) emptyLedger)) (now (a .out)) (s .pre .1 .0 .0) (s .pre .1 .0 .1 .0) _ _ _ _ _
+    sheet-written (reachOf (now (a .bed)) (now (a .depth)) (now (a .discharge)) (now (a .mass)) [] [] (a .x) (heldWith (a .boundaries) emptyLedger noOutlets)) (now (a .out)) (s .pre .1 .0 .0) (s .pre .1 .0 .1 .0) _ _ _ _ _
     (c .before .before .before .before .before .before .before .before .before .before .before .before .before .before .before .before .before .before .put-header .ensures)
     (c .before .before .before .before .before .before .before .before .before .before .before .before .before .before .put-signed .ensures)
     (c .before .before .before .before .before .before .before .before .before .before .put-column .ensures)

@@ -1,0 +1,2 @@
+pub mod DealingLaws
+pub mod DrawingLaws

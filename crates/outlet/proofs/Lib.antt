@@ -1,0 +1,4 @@
+pub mod OutletLaws
+pub mod ClearingLaws
+pub mod LentLaws
+pub mod lent
