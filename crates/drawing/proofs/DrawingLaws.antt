@@ -21,6 +21,11 @@ use Rattle.drawing.specs.Ranges.{byCell}
 pub as-long : (n : ℕ) (f : ℕ → ℕ) (l : List ℕ) → l ≡ tabulate n f → length l ≡ n
 as-long n f l e = ap length e ∙ length-tabulate n f
 
+-- with no outlet nothing is added
+pub none-added : (os : Outlets) (column amounts : List ℕ) → os .count ≡ 0 → column ≡ tabulate (length column) (λ i. getD column i 0 + byCell os amounts i)
+unfolding byCell sumBelow
+none-added os column amounts e = by-index (length column) (λ i. getD column i 0 + byCell os amounts i) 0 column refl (λ i l. rw e (sym (add-zero (getD column i 0))))
+
 -- an amount of outlet k, as far as it concerns cell i
 unfoldable pub there : List Outlet → (k i amount : ℕ) → ℕ
 there l k i amount = cond (eqb (getD l k noOutlet .cell) i) amount 0

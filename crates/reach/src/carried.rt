@@ -4,12 +4,13 @@ ghost use mathlib.Core.Bool.{true};
 ghost use mathlib.Core.List.{[], _∷_};
 ghost use Prim.Native.Nat.{_≤_};
 ghost use lib.ListN.{length};
+ghost use Rattle.numbers.specs.Index.{tabulate};
 ghost use Rattle.flux.specs.Limits.{depthMost};
+ghost use Rattle.reach.specs.Limits.{cellsMost};
 ghost use Rattle.reach.specs.Grounds.{carriedFits, carriedCellsFit, shutFits, carriedFit, outletsFit, passOr};
-ghost use Rattle.reach.specs.Ranges.{CarriedColumns, CarriedLengths, alone};
+ghost use Rattle.reach.specs.Ranges.{CarriedColumns, CarriedLengths, Clear, alone, cutDrawn};
 ghost use Rattle.reach.specs.Parts.{drawnFrom};
 use super::boundary::WALL;
-use super::cells::CELLS_MOST;
 use super::outlets::drawn_by_cell;
 use super::refusal::Check;
 use numbers::signed::left_part;
@@ -87,20 +88,22 @@ fn check_carried_with(
     Check::Pass
 }
 
-// Ground 8, of a list of outlets that stood ground 16
+// Ground 8, of a list of outlets that stood ground 16. `drawn`, a column of zeros, is left with what the outlets of each cell have drawn together.
 pub fn check_carried(
     depth: &[u64],
     base: &[u64],
     carried: &[i64],
     outlets: Outlets,
+    drawn: &mut [u64],
     left_kind: u32,
     right_kind: u32,
 ) -> Check
     requires { ⌜ CarriedColumns (now depth) (now base) (now carried) ⌝ }
     requires { ⌜ outletsFit (length (now depth)) outlets ≡ true ⌝ }
+    requires { ⌜ Clear (now drawn) ⌝ }
     ensures { λ r. ⌜ r ≡ passOr 8 (carriedFit (now (depth .entry)) (now (base .entry)) (now (carried .entry)) (drawnFrom outlets) «left_kind» «right_kind») ⌝ }
+    ensures { λ _. ⌜ now (drawn .exit) ≡ tabulate cellsMost (cutDrawn outlets) ⌝ }
 {
-    let mut drawn = [0u64; CELLS_MOST];
-    drawn_by_cell(outlets, &mut drawn);
-    check_carried_with(depth, base, carried, &drawn, left_kind, right_kind)
+    drawn_by_cell(outlets, drawn);
+    check_carried_with(depth, base, carried, drawn, left_kind, right_kind)
 }

@@ -26,10 +26,13 @@ pub fn all_totals_fit(held: Held) -> bool
     ensures { λ r. ⌜ r ≡ allTotalsFit held ⌝ }
 {
     let ledger = held.ledger;
-    let outlets = held.outlets;
     if !ledger_fits(ledger) {
         return false;
     }
+    if held.outlets.count == 0 {
+        return true;
+    }
+    let outlets = held.outlets;
     each_totals_fit(outlets)
 }
 

@@ -73,6 +73,9 @@ pub fn drawn_by_cell(outlets: Outlets, column: &mut [u64])
     requires { ⌜ ((i : ℕ) → getD (now column) i 0 ≡ 0) ⌝ }
     ensures { λ _. ⌜ now (column .exit) ≡ tabulate (length (now (column .entry))) (cutDrawn outlets) ⌝ }
 {
+    if outlets.count == 0 {
+        return;
+    }
     let amounts = drawn_of(outlets);
     add_by_cell(outlets, amounts, column);
 }

@@ -244,8 +244,8 @@ module _ (s : Reach) (k : Sound s) (t : ℕ) where
       pub discharge-of : (i : ℕ) → i < cells s → getD discharge i (pos 0) ≡ newDischarge s t i
       discharge-of i l = w .discharges i l ∙ ap (λ (n : ℕ). grantedDischarge s t n i) (wanted-at i (of-wants i l)) ∙ sym (discharge-is s t i)
 
-      -- what each cell gives is no more than what is wanted of it, and past the last cell nothing
-      pub grants : length given ≡ cellsMost → ((i : ℕ) → cells s ≤ i → getD given i 0 ≡ 0) → Granted os wanted given
+      -- what each cell gives is no more than what is wanted of it, past the last cell too
+      pub grants : length given ≡ cellsMost → ((i : ℕ) → cells s ≤ i → getD given i 0 ≡ getD wanted i 0) → Granted os wanted given
       unfolding granted
       grants long rest = record {
         few = few;

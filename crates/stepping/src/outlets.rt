@@ -25,17 +25,25 @@ pub fn wants_by_cell(outlets: Outlets, column: &mut [u64])
     requires { ⌜ ((i : ℕ) → getD (now column) i 0 ≡ 0) ⌝ }
     ensures { λ _. ⌜ now (column .exit) ≡ tabulate (length (now (column .entry))) (λ i. sum (wantsFrom outlets i)) ⌝ }
 {
+    if outlets.count == 0 {
+        return;
+    }
     let amounts = wants_of(outlets);
     add_by_cell(outlets, amounts, column);
 }
 
 // What each outlet has of what its cell gives
-pub fn deal_out(outlets: Outlets, wanted: &[u64], given: &[u64]) -> [u64; 32]
-    requires { ⌜ Granted outlets (now wanted) (now given) × (length (now given) ≡ cellsMost) ⌝ }
+pub fn deal_out(outlets: Outlets, given: &[u64]) -> [u64; 32]
+    requires { ⌜ Granted outlets (tabulate cellsMost (λ i. sum (wantsFrom outlets i))) (now given) ⌝ }
     ensures { λ r. ⌜ r ≡ tabulate 32 (λ k. cond (ltb k (outlets .count)) (getD (dealt (getD (now (given .entry)) (outletAt outlets k .cell) 0) (wantsFrom outlets (outletAt outlets k .cell))) k 0) 0) ⌝ }
 {
+    if outlets.count == 0 {
+        return [0u64; 32];
+    }
+    let mut wanted = [0u64; CELLS_MOST];
     let mut left = [0u64; CELLS_MOST];
-    deal(outlets, wanted, given, &mut left)
+    wants_by_cell(outlets, &mut wanted);
+    deal(outlets, &wanted, given, &mut left)
 }
 
 fn outlet_with(o: Outlet, got: u64) -> Outlet
@@ -57,11 +65,10 @@ pub fn draw(outlets: Outlets, got: [u64; 32]) -> Outlets
     ensures { λ r. ⌜ r ≡ withDraws outlets got ⌝ }
 {
     let count = outlets.count;
-    let old = outlets.list;
-    let mut list = old;
+    let mut list = outlets.list;
     let mut k = 0;
     while k < count {
-        let o = old[k];
+        let o = list[k];
         list[k] = outlet_with(o, got[k]);
         k += 1;
     }

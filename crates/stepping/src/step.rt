@@ -9,7 +9,8 @@ ghost use Rattle.numbers.specs.Index.{allBelow, tabulate};
 ghost use Rattle.flux.specs.Limits.{depthMost};
 ghost use Rattle.reach.specs.Reach.{reachOf, came, withTotals};
 ghost use Rattle.reach.specs.Parts.{drawnFrom};
-ghost use Rattle.reach.specs.Ranges.{alone};
+ghost use Rattle.reach.specs.Limits.{cellsMost};
+ghost use Rattle.reach.specs.Ranges.{alone, cutDrawn};
 ghost use Rattle.reach.specs.Grounds.{firstRefusal, recordGrounds, ledgerFits, numberOf, passOr};
 ghost use Rattle.mass.specs.Transport.{massColumns, movedOutlets};
 ghost use Rattle.mass.specs.Ranges.{Ready, OutletsReady};
@@ -32,9 +33,8 @@ use numbers::columns::add_column;
 use numbers::columns::copy_first;
 use numbers::columns::copy_first_signed;
 use reach::cells::CELLS_MOST;
-use reach::check_record;
+use reach::check_record_with;
 use reach::held::Held;
-use reach::outlets::drawn_by_cell;
 use reach::refusal::Check;
 use transport::BoundaryMass;
 use transport::check_room;
@@ -172,6 +172,7 @@ fn complete(
     x: u64,
     held: Held,
     t: u64,
+    drawn: &[u64],
     net: &[i64],
     given: &[u64],
     new_depth: &[u64],
@@ -181,19 +182,17 @@ fn complete(
     requires { ⌜ firstRefusal (recordGrounds (reachOf (now bed) (now depth) (now discharge) (now mass) (now base) (now carried) x held) (held .boundaries)) ≡ Pass ⌝ }
     requires { ⌜ StepPasses (reachOf (now bed) (now depth) (now discharge) (now mass) (now base) (now carried) x held) t ⌝ }
     requires { ⌜ StepFound (reachOf (now bed) (now depth) (now discharge) (now mass) (now base) (now carried) x held) t (now net) (now given) (now «new_depth») (now «new_discharge») got ⌝ }
+    requires { ⌜ now drawn ≡ tabulate cellsMost (cutDrawn (held .outlets)) ⌝ }
     ensures { λ r. ⌜ StepCameTo (came bed depth discharge mass base carried x held) t r (now (depth .exit)) (now (discharge .exit)) (now (mass .exit)) (now (base .exit)) (now (carried .exit)) ⌝ }
 {
-    let outlets = held.outlets;
     let n = bed.len();
-    let mut drawn = [0u64; CELLS_MOST];
-    drawn_by_cell(outlets, &mut drawn);
-    let transports = !keeps_sums(base, carried, net, &drawn, given);
+    let transports = !keeps_sums(base, carried, net, drawn, given);
     let booked = book(
         transports,
         mass,
         base,
         carried,
-        &drawn,
+        drawn,
         held,
         got,
         net[0],
@@ -210,7 +209,7 @@ fn complete(
         mass,
         base,
         carried,
-        &drawn,
+        drawn,
         crossed.left_in,
         crossed.right_in,
     );
@@ -222,7 +221,7 @@ fn complete(
     }
 }
 
-// Grounds 11 and 12, and the step itself, on a record and a time that stood those before
+// Grounds 11 and 12, and the step itself, on a record and a time that stood those before. `drawn` is what the outlets of each cell have drawn together.
 fn advance(
     bed: &[i64],
     depth: &mut [u64],
@@ -233,20 +232,21 @@ fn advance(
     x: u64,
     held: Held,
     t: u64,
+    drawn: &[u64],
 ) -> StepAnswer
     requires { ⌜ firstRefusal (recordGrounds (reachOf (now bed) (now depth) (now discharge) (now mass) (now base) (now carried) x held) (held .boundaries)) ≡ Pass ⌝ }
     requires { ⌜ timeFits t ≡ true ⌝ }
+    requires { ⌜ now drawn ≡ tabulate cellsMost (cutDrawn (held .outlets)) ⌝ }
     ensures { λ r. ⌜ StepCameTo (came bed depth discharge mass base carried x held) t r (now (depth .exit)) (now (discharge .exit)) (now (mass .exit)) (now (base .exit)) (now (carried .exit)) ⌝ }
 {
     let boundaries = held.boundaries;
     let outlets = held.outlets;
     let n = bed.len();
-    let mut wanted = [0u64; CELLS_MOST];
     let mut net = [0i64; CELLS_MOST + 1];
     let mut given = [0u64; CELLS_MOST];
     let mut new_depth = [0u64; CELLS_MOST];
     let mut new_discharge = [0i64; CELLS_MOST];
-    wants_by_cell(outlets, &mut wanted);
+    wants_by_cell(outlets, &mut given);
     let Check::Pass = sweep(
         t,
         x,
@@ -254,7 +254,6 @@ fn advance(
         depth,
         discharge,
         boundaries,
-        &wanted,
         &mut net,
         &mut given,
         &mut new_depth,
@@ -265,7 +264,7 @@ fn advance(
     let Check::Pass = check_depths(&new_depth, n) else {
         return stopped(12, held);
     };
-    let got = deal_out(outlets, &wanted, &given);
+    let got = deal_out(outlets, &given);
     complete(
         bed,
         depth,
@@ -276,6 +275,7 @@ fn advance(
         x,
         held,
         t,
+        drawn,
         &net,
         &given,
         &new_depth,
@@ -299,7 +299,8 @@ pub fn step(
     ensures { λ r. ⌜ StepCameTo (came bed depth discharge mass base carried x held) t r (now (depth .exit)) (now (discharge .exit)) (now (mass .exit)) (now (base .exit)) (now (carried .exit)) ⌝ }
 {
     let boundaries = held.boundaries;
-    let checked = check_record(
+    let mut drawn = [0u64; CELLS_MOST];
+    let checked = check_record_with(
         bed,
         depth,
         discharge,
@@ -309,6 +310,7 @@ pub fn step(
         x,
         held,
         boundaries,
+        &mut drawn,
     );
     let Check::Pass = checked else {
         return refused(checked, held);
@@ -316,5 +318,16 @@ pub fn step(
     let Check::Pass = check_time(t) else {
         return stopped(10, held);
     };
-    advance(bed, depth, discharge, mass, base, carried, x, held, t)
+    advance(
+        bed,
+        depth,
+        discharge,
+        mass,
+        base,
+        carried,
+        x,
+        held,
+        t,
+        &drawn,
+    )
 }

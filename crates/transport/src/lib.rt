@@ -6,9 +6,10 @@ ghost use lib.IntN.{pos};
 ghost use lib.ListN.{length, replicate};
 ghost use Rattle.mass.specs.Transport.{massColumns};
 ghost use Rattle.mass.specs.Ranges.{Ready, massMost, movedMass};
-ghost use Rattle.reach.specs.Limits.{totalMost};
+ghost use Rattle.numbers.specs.Index.{tabulate};
+ghost use Rattle.reach.specs.Limits.{cellsMost, totalMost};
 ghost use Rattle.outlet.specs.Outlets.{outletsMost};
-ghost use Rattle.reach.specs.Ranges.{alone};
+ghost use Rattle.reach.specs.Ranges.{alone, cutDrawn};
 ghost use Rattle.reach.specs.Reach.{reachOf, came};
 ghost use Rattle.reach.specs.Grounds.{ledgerFits, allTotalsFit, firstRefusal, recordGrounds, numberOf, passOr};
 ghost use Rattle.reach.specs.declared.refusal.Check.the-variants.{Pass};
@@ -23,12 +24,11 @@ use numbers::signed::left_part;
 use numbers::signed::right_part;
 use reach::boundary::Boundary;
 use reach::cells::CELLS_MOST;
-use reach::check_record;
+use reach::check_record_with;
 use reach::held::Held;
 use reach::held::all_totals_fit;
 use reach::ledger::Ledger;
 use reach::ledger::Totals;
-use reach::outlets::drawn_by_cell;
 use reach::refusal::Check;
 
 // What a transport or a setting of boundaries hands back: 0 or the number of its refusal, the boundaries held from now on, and the ledger.
@@ -151,16 +151,16 @@ fn transport_under(
     x: u64,
     held: Held,
     given: [Boundary; 2],
+    drawn: &[u64],
 ) -> TransportAnswer
     requires { ⌜ firstRefusal (recordGrounds (reachOf (now bed) (now depth) (now discharge) (now mass) (now base) (now carried) x held) given) ≡ Pass ⌝ }
+    requires { ⌜ now drawn ≡ tabulate cellsMost (cutDrawn (held .outlets)) ⌝ }
     ensures { λ r. ⌜ CameTo (setBoundaries (came bed depth discharge mass base carried x held) given) r (now (mass .exit)) (now (base .exit)) (now (carried .exit)) ⌝ }
 {
     let old = held.boundaries;
     let ledger = held.ledger;
     let outlets = held.outlets;
-    let mut drawn = [0u64; CELLS_MOST];
-    drawn_by_cell(outlets, &mut drawn);
-    let crossed = boundary_mass_of(mass, base, carried, &drawn, old);
+    let crossed = boundary_mass_of(mass, base, carried, drawn, old);
     let next = entered(ledger, crossed);
     let moved = move_outlets(mass, base, carried, outlets);
     let after = Held {
@@ -176,7 +176,7 @@ fn transport_under(
         mass,
         base,
         carried,
-        &drawn,
+        drawn,
         crossed.left_in,
         crossed.right_in,
     );
@@ -200,11 +200,34 @@ pub fn set_boundaries(
 ) -> TransportAnswer
     ensures { λ r. ⌜ CameTo (setBoundaries (came bed depth discharge mass base carried x held) given) r (now (mass .exit)) (now (base .exit)) (now (carried .exit)) ⌝ }
 {
-    let checked = check_record(bed, depth, discharge, mass, base, carried, x, held, given);
+    let mut drawn = [0u64; CELLS_MOST];
+    let checked = check_record_with(
+        bed,
+        depth,
+        discharge,
+        mass,
+        base,
+        carried,
+        x,
+        held,
+        given,
+        &mut drawn,
+    );
     let Check::Pass = checked else {
         return refused(checked, held);
     };
-    transport_under(bed, depth, discharge, mass, base, carried, x, held, given)
+    transport_under(
+        bed,
+        depth,
+        discharge,
+        mass,
+        base,
+        carried,
+        x,
+        held,
+        given,
+        &drawn,
+    )
 }
 
 // Transports by itself: the paper's 'settling'.

@@ -70,6 +70,9 @@ fn granted_of(h: u64, l: Exchange, r: Exchange, wanted: u64) -> u64
     requires { ⌜ ExchangeFits l × ExchangeFits r ⌝ }
     ensures { λ g. ⌜ g ≡ min (h - (l .leftward + r .rightward)) wanted ⌝ }
 {
+    if wanted == 0 {
+        return 0;
+    }
     let available = excess(h, l.leftward + r.rightward);
     if available < wanted {
         return available;
@@ -112,7 +115,8 @@ fn check_cfl(met: bool) -> Check
     Check::Pass
 }
 
-// Ground 11, CFL at every side; N of each interface, what each cell gives of what is wanted of it, and its depth and discharge after the step
+// Ground 11, CFL at every side; N of each interface, what each cell gives, and its depth and discharge after the step. `given` comes with what is
+// wanted of each cell.
 pub fn sweep(
     t: u64,
     x: u64,
@@ -120,17 +124,15 @@ pub fn sweep(
     depth: &[u64],
     discharge: &[i64],
     boundaries: [Boundary; 2],
-    wanted: &[u64],
     net: &mut [i64],
     given: &mut [u64],
     new_depth: &mut [u64],
     new_discharge: &mut [i64],
 ) -> Check
     requires { ⌜ Mesh t x × FlowFits (flowOf (now bed) (now depth) (now discharge) x boundaries) ⌝ }
-    requires { ⌜ (length (now bed) ≤ length (now wanted)) × (length (now bed) ≤ length (now given)) ⌝ }
-    requires { ⌜ (length (now bed) < length (now net)) × ((length (now bed) ≤ length (now «new_depth»)) × (length (now bed) ≤ length (now «new_discharge»))) ⌝ }
+    requires { ⌜ (length (now bed) < length (now net)) × ((length (now bed) ≤ length (now given)) × ((length (now bed) ≤ length (now «new_depth»)) × (length (now bed) ≤ length (now «new_discharge»)))) ⌝ }
     ensures { λ r. ⌜ r ≡ passOr 11 (sidesMeet (flowOf (now (bed .entry)) (now (depth .entry)) (now (discharge .entry)) x boundaries) t) ⌝ }
-    ensures { λ _. ⌜ Swept (flowOf (now (bed .entry)) (now (depth .entry)) (now (discharge .entry)) x boundaries) t (now (wanted .entry)) (now (net .exit)) (now (given .exit)) (now («new_depth» .exit)) (now («new_discharge» .exit)) ⌝ }
+    ensures { λ _. ⌜ Swept (flowOf (now (bed .entry)) (now (depth .entry)) (now (discharge .entry)) x boundaries) t (now (given .entry)) (now (net .exit)) (now (given .exit)) (now («new_depth» .exit)) (now («new_discharge» .exit)) ⌝ }
     ensures { λ _. ⌜ ((i : ℕ) → length (now (bed .entry)) ≤ i → getD (now (given .exit)) i 0 ≡ getD (now (given .entry)) i 0) ⌝ }
 {
     let n = bed.len();
@@ -143,7 +145,7 @@ pub fn sweep(
     while i < n {
         let next = right_side(bed, depth, discharge, boundaries[1], cell, i + 1);
         let right = exchange_between(t, x, cell, next);
-        let taken = granted_of(depth[i], left, right, wanted[i]);
+        let taken = granted_of(depth[i], left, right, given[i]);
         let deep = depth_after(depth[i], left, right, taken);
         met = still_meets(met, t, x, next);
         net[i + 1] = net_of(right);

@@ -5,20 +5,16 @@ use mathlib.Core.List.{List}
 use Prim.Native.Nat.{ℕ}
 use native.Mathlib.Omega.{arith}
 use denote.Ref.{now}
-use Rattle.numbers.specs.Index.{tabulate}
-use Rattle.numbers.proofs.IndexLaws.{zeros}
 use Rattle.outlet.specs.declared.Outlets.{Outlets}
 use Rattle.outlet.proofs.OutletLaws.{each-count}
 use Rattle.mass.specs.Transport.{movedOutlet, movedOutlets}
-use Rattle.reach.specs.Limits.{cellsMost}
-use Rattle.reach.specs.Ranges.{cutDrawn}
 use Rattle.reach.specs.Reach.{Reach, reachOf}
 use Rattle.reach.specs.Grounds.{allTotalsFit}
 use Rattle.reach.specs.declared.boundary.Boundary.{Boundary}
 use Rattle.reach.specs.declared.held.Held.{Held}
 use Rattle.reach.specs.declared.ledger.Ledger.{Ledger}
 use Rattle.reach.proofs.GroundsLaws.{passed, refused-by}
-use Rattle.reach.proofs.Sound.{Sound, sound, outlets-few, outlet-sound, ledger-fits}
+use Rattle.reach.proofs.Sound.{Sound, sound, outlets-few, ledger-fits}
 use Rattle.transport.specs.Calls.{massColumnsOf, enteringLeft, enteringRight, transportLedger, transportOutlets, transportHeld, afterTransport, holding}
 use Rattle.transport.specs.Ranges.{BoundaryMassOf}
 use Rattle.transport.proofs.CallsLaws.{ready-with, crossed-with, drawn-long, ready-entering, moved-entering, outlets-ready, outlets-are, small, ledger-is, full, accepted}
@@ -26,8 +22,8 @@ use borrow.Author.Needs.{needs}
 use Rattle.transport.proofs.transport_under.Statement.{statement}
 use Rattle.transport.proofs.transport_under.Tie as tie
 
-abbrev entry : tie.After-drawn3 → tie.Start
-entry c = c .before .before .before .before .before .before .before .before .before .before .before .before .before
+abbrev entry : tie.After-boundary-mass-of-arg3 → tie.Start
+entry c = c .before .before .before .before .before .before .before .before .before .before
 
 abbrev start : tie.After-move-outlets → tie.Start
 start c = entry (c .before .before .before .before .before .before)
@@ -37,16 +33,12 @@ reach s =
     reachOf (now (s .args .bed)) (now (s .args .depth)) (now (s .args .discharge)) (now (s .args .mass)) (now (s .args .base)) (now (s .args .carried)) (s .args .x) (s .args .held)
 
 checked : (s : tie.Start) → Sound (reach s)
-checked s = sound (reach s) (s .args .given) (s .pre)
-
--- what each cell's outlets have drawn
-drawn : (c : tie.After-drawn3) → c .before .before .before .before .before .drawn-by-cell .last .1 .0 ≡ tabulate cellsMost (cutDrawn (entry c .args .held .outlets))
-drawn c = c .before .before .before .before .before .drawn-by-cell .ensures
+checked s = sound (reach s) (s .args .given) (s .pre .0)
 
 crossed : (c : tie.After-boundary-mass-of) →
     let x = c .boundary-mass-of .result in
     BoundaryMassOf (massColumnsOf (reach (entry (c .before)))) (x .«left_in») (x .«left_out») (x .«right_in») (x .«right_out»)
-crossed c = crossed-with (reach (entry (c .before))) (checked (entry (c .before))) _ (drawn (c .before)) (c .boundary-mass-of .ensures)
+crossed c = crossed-with (reach (entry (c .before))) (checked (entry (c .before))) _ (entry (c .before) .pre .1) (c .boundary-mass-of .ensures)
 
 -- the totals that the call would leave
 next-ledger : (c : tie.After-move-outlets) → c .before .before .before .before .entered .result ≡ transportLedger (reach (start c))
@@ -69,22 +61,11 @@ room-is : (c : tie.After-move-outlets) →
     allTotalsFit (with (start c .args .given) (c .before .before .before .before .entered .result) (c .move-outlets .result)) ≡ allTotalsFit (transportHeld (reach (start c)))
 room-is c = ap₂ (λ (k : Ledger) (os : Outlets). allTotalsFit (with (start c .args .given) k os)) (next-ledger c) (next-outlets c) ∙ no-total (reach (start c)) (start c .args .given)
 
-slice-aggregate-drawn-by-cell : tie.Need-slice-aggregate-drawn-by-cell
-slice-aggregate-drawn-by-cell c = search needs
-
-drawn-by-cell-requires : tie.Need-drawn-by-cell-requires
-drawn-by-cell-requires c κs =
-    let s = c .before .before .before .before .before .before .before in
-    let k = checked s in
-    (outlets-few _ _ (k .outlets), ((λ j l. omega (arith, outlet-sound _ _ (k .outlets) j l .cell, k .few)), zeros 512))
-
-slice-aggregate-boundary-mass-of : tie.Need-slice-aggregate-boundary-mass-of
-slice-aggregate-boundary-mass-of c = search needs
-
 boundary-mass-of-requires : tie.Need-boundary-mass-of-requires
 boundary-mass-of-requires c κs =
-    let k = checked (entry c) in
-    (ready-with (reach (entry c)) k _ (drawn c), (omega (arith, k .some, k .masses), drawn-long (reach (entry c)) k _ (drawn c)))
+    let s = entry c in
+    let k = checked s in
+    (ready-with (reach s) k _ (s .pre .1), (omega (arith, k .some, k .masses), drawn-long (reach s) k _ (s .pre .1)))
 
 entered-requires : tie.Need-entered-requires
 entered-requires c κs =
@@ -119,19 +100,16 @@ returns : tie.Need-returns
 returns c =
     let m = c .before .before .before in
     let s = start m in
-    rw (full (reach s) (s .args .given) (s .pre) (sym (room-is m) ∙ refused-by 13 _ _ _ (c .before .before .check-room .ensures) (c .enum-told2 .given .1)))
+    rw (full (reach s) (s .args .given) (s .pre .0) (sym (room-is m) ∙ refused-by 13 _ _ _ (c .before .before .check-room .ensures) (c .enum-told2 .given .1)))
     (record { refusal-is = refl; held-is = refl; mass-is = refl; base-is = refl; carried-is = refl })
-
-slice-aggregate-commit : tie.Need-slice-aggregate-commit
-slice-aggregate-commit c = search needs
 
 commit-requires : tie.Need-commit-requires
 commit-requires c κs =
-    let m = c .before .before .before .before .before .before .before in
+    let m = c .before .before .before .before .before .before in
     let s = start m in
     let k = checked s in
     let x = crossed (m .before .before .before .before .before) in
-    let d = drawn (m .before .before .before .before .before .before) in
+    let d = s .pre .1 in
     (ready-entering (reach s) k _ d (x .left-in) (x .right-in), (omega (arith, k .bases, k .depths), drawn-long (reach s) k _ d))
 
 same-length-4 : tie.Need-same-length-4
@@ -147,16 +125,16 @@ returns-2 : tie.Need-returns-2
 unfolding afterTransport holding transportHeld
 returns-2 c =
     let d = c .before .before .before .before .before in
-    let m = d .before .before .before .before .before .before .before .before in
+    let m = d .before .before .before .before .before .before .before in
     let s = start m in
     let k = checked s in
     let x = crossed (m .before .before .before .before .before) in
-    let told = d .before .before .before .before .before in
-    rw (accepted (reach s) (s .args .given) (s .pre) (sym (room-is m) ∙ passed 13 _ _ (told .before .before .check-room .ensures) (told .enum-told .given .1)))
+    let told = d .before .before .before .before in
+    rw (accepted (reach s) (s .args .given) (s .pre .0) (sym (room-is m) ∙ passed 13 _ _ (told .before .before .check-room .ensures) (told .enum-told .given .1)))
     (record {
       refusal-is = refl;
       held-is = ap₂ (with (s .args .given)) (next-ledger m) (next-outlets m);
-      mass-is = d .commit .ensures .0 ∙ moved-entering (reach s) k _ (drawn (m .before .before .before .before .before .before)) (x .left-in) (x .right-in);
+      mass-is = d .commit .ensures .0 ∙ moved-entering (reach s) k _ (s .pre .1) (x .left-in) (x .right-in);
       base-is = d .commit .ensures .1 .0;
       carried-is = d .commit .ensures .1 .1;
     })
@@ -165,9 +143,6 @@ pub transport-under-spec : {M : Type 1} → statement M
 transport-under-spec =
     tie.close
     (tie.spec
-    slice-aggregate-drawn-by-cell
-    drawn-by-cell-requires
-    slice-aggregate-boundary-mass-of
     boundary-mass-of-requires
     entered-requires
     move-outlets-requires
@@ -178,7 +153,6 @@ transport-under-spec =
     same-length-2
     same-length-3
     returns
-    slice-aggregate-commit
     commit-requires
     same-length-4
     same-length-5

@@ -8,7 +8,7 @@ use denote.Ref.{now}
 use lib.IntN.{ℤ, pos}
 use lib.ListN.{length, getD}
 use Rattle.numbers.specs.Index.{allOf, tabulate}
-use Rattle.numbers.proofs.IndexLaws.{length-tabulate, getD-tabulate, all-same, zeros}
+use Rattle.numbers.proofs.IndexLaws.{length-tabulate, getD-tabulate, all-same}
 use Rattle.outlet.specs.declared.Outlets.{Outlets}
 use Rattle.reach.specs.Parts.{drawnFrom}
 use Rattle.reach.specs.Grounds.{carriedFits, carriedCellsFit, carriedFit, outletsFit, passOr}
@@ -32,41 +32,36 @@ same-ground h b c os d left right k f e =
     rw (at-cell os d e i (omega (arith, l, k .few)))
     (carried-cut os (outlets-few (length h) os f) (getD h i 0) (getD b i 0) (getD c i (pos 0)) (getD c (i + 1) (pos 0)) i (k .base i l)))) refl
 
-slice-aggregate-drawn-by-cell : tie.Need-slice-aggregate-drawn-by-cell
-slice-aggregate-drawn-by-cell c = search needs
-
 drawn-by-cell-requires : tie.Need-drawn-by-cell-requires
 drawn-by-cell-requires c κs =
-    let s = c .before .before .before in
-    let f = s .pre .1 in
-    (outlets-few _ _ f, ((λ k l. omega (arith, outlet-sound _ _ f k l .cell, s .pre .0 .few)), zeros 512))
+    let s = c .before .before .before .before in
+    let f = s .pre .1 .0 in
+    let z = s .pre .1 .1 in
+    (outlets-few _ _ f, ((λ k l. omega (arith, outlet-sound _ _ f k l .cell, s .pre .0 .few, z .long)), z .zeros))
 
-slice-aggregate-check-carried-with : tie.Need-slice-aggregate-check-carried-with
-slice-aggregate-check-carried-with c = search needs
+-- the column as it is left
+resized : (os : Outlets) (d : List ℕ) (n : ℕ) → n ≡ 512 → d ≡ tabulate n (cutDrawn os) → d ≡ tabulate 512 (cutDrawn os)
+resized os d n l e = e ∙ ap (λ (m : ℕ). tabulate m (cutDrawn os)) l
 
 check-carried-with-requires : tie.Need-check-carried-with-requires
 check-carried-with-requires c κs =
-    let s = c .before .before .before .before .before .before in
-    let d = c .before .before .drawn-by-cell .ensures in
+    let s = c .before .before .before .before .before .before .before .before in
+    let d = resized (s .args .outlets) _ _ (s .pre .1 .1 .long) (c .before .before .before .drawn-by-cell .ensures) in
     let k = s .pre .0 in
     record {
       columns = k;
       long = omega (arith, k .few, ap length d ∙ length-tabulate 512 (cutDrawn (s .args .outlets)));
-      drawn-most = λ i l. rw (at-cell (s .args .outlets) _ d i (omega (arith, l, k .few))) (cut-most (s .args .outlets) (outlets-few _ _ (s .pre .1)) i);
+      drawn-most = λ i l. rw (at-cell (s .args .outlets) _ d i (omega (arith, l, k .few))) (cut-most (s .args .outlets) (outlets-few _ _ (s .pre .1 .0)) i);
     }
+
+same-length : tie.Need-same-length
+same-length c = search needs
 
 returns : tie.Need-returns
 returns c =
-    let s = c .before .before .before .before .before .before .before in
-    c .check-carried-with .ensures
-    ∙ ap (passOr 8) (same-ground _ _ _ (s .args .outlets) _ _ _ (s .pre .0) (s .pre .1) (c .before .before .before .drawn-by-cell .ensures))
+    let s = c .before .before .before .before .before .before .before .before .before in
+    let d = resized (s .args .outlets) _ _ (s .pre .1 .1 .long) (c .before .before .before .before .drawn-by-cell .ensures) in
+    (c .check-carried-with .ensures ∙ ap (passOr 8) (same-ground _ _ _ (s .args .outlets) _ _ _ (s .pre .0) (s .pre .1 .0) d), d)
 
 pub check-carried-spec : {M : Type 1} → statement M
-check-carried-spec =
-    tie.close
-    (tie.spec
-    slice-aggregate-drawn-by-cell
-    drawn-by-cell-requires
-    slice-aggregate-check-carried-with
-    check-carried-with-requires
-    returns)
+check-carried-spec = tie.close (tie.spec drawn-by-cell-requires check-carried-with-requires same-length returns)

@@ -1,7 +1,8 @@
 -- `reach::held::all_totals_fit` meets its contract. Assumes nothing.
-use mathlib.Core.Path.{sym, _∙_}
+use mathlib.Core.Path.{refl, sym, _∙_}
 use borrow.Author.Needs.{needs}
 use borrow.Author.Tests.{not-true, not-false}
+use Rattle.numbers.specs.Index.{allBelow}
 use Rattle.numbers.proofs.IndexLaws.{on, off, only}
 use Rattle.reach.specs.Grounds.{allTotalsFit}
 use Rattle.reach.proofs.held.all_totals_fit.Statement.{statement}
@@ -14,12 +15,16 @@ returns : tie.Need-returns
 unfolding allTotalsFit
 returns c = sym (off _ _ (sym (c .before .ledger-fits .ensures) ∙ not-true _ (c .if1 .taken)))
 
+returns-2 : tie.Need-returns-2
+unfolding allTotalsFit allBelow
+returns-2 c = sym (on _ _ (sym (c .before .before .before .ledger-fits .ensures) ∙ not-false _ (c .before .before .if1 .left)) (only _ ∙ rw (c .if2 .taken) refl))
+
 each-totals-fit-requires : tie.Need-each-totals-fit-requires
 each-totals-fit-requires c κs = search needs
 
-returns-2 : tie.Need-returns-2
+returns-3 : tie.Need-returns-3
 unfolding allTotalsFit
-returns-2 c = c .each-totals-fit .ensures ∙ sym (on _ _ (sym (c .before .before .ledger-fits .ensures) ∙ not-false _ (c .before .if1 .left)) (only _))
+returns-3 c = c .each-totals-fit .ensures ∙ sym (on _ _ (sym (c .before .before .before .before .before .ledger-fits .ensures) ∙ not-false _ (c .before .before .before .before .if1 .left)) (only _))
 
 pub all-totals-fit-spec : {M : Type 1} → statement M
-all-totals-fit-spec = tie.close (tie.spec ledger-fits-requires returns each-totals-fit-requires returns-2)
+all-totals-fit-spec = tie.close (tie.spec ledger-fits-requires returns returns-2 each-totals-fit-requires returns-3)

@@ -16,10 +16,10 @@ use Rattle.stepping.proofs.outlets.draw.Statement.{statement}
 use Rattle.stepping.proofs.outlets.draw.Tie as tie
 
 abbrev Inv-loop : tie.InvT-loop
-Inv-loop got count old list₀ k₀ list k = (k ≤ count) × Written noOutlet (outletWith (record { count = count; list = old }) got) old k list
+Inv-loop got count list₀ k₀ list k = (k ≤ count) × Written noOutlet (outletWith (record { count = count; list = list₀ }) got) list₀ k list
 
 abbrev μ-loop : tie.MeasureT-loop
-μ-loop got count old list₀ k₀ list k = count - k
+μ-loop got count list₀ k₀ list k = count - k
 
 abbrev entry : tie.In-loop Inv-loop μ-loop → tie.Start Inv-loop μ-loop
 entry c = c .before .before .before
@@ -27,6 +27,10 @@ entry c = c .before .before .before
 -- the list is an array of 32
 list-long : (s : tie.Start Inv-loop μ-loop) → length (s .args .outlets .list) ≡ 32
 list-long s = sym (length-map (s .args .outlets .list) _) ∙ s .good .0 .1 .1 .1 .0 .1 .0 .1
+
+-- the outlet at hand has not been written yet
+here : (c : tie.In-loop Inv-loop μ-loop) → getD (c .before .loop .list) (c .before .loop .k) noOutlet ≡ outletAt (entry c .args .outlets) (c .before .loop .k)
+here c = c .before .loop .inv .1 .same (c .before .loop .k) (omega arith)
 
 few : (c : tie.In-loop Inv-loop μ-loop) → c .before .loop .k < 32
 few c = omega (arith, c .loop-test .taken, entry c .pre .few)
@@ -52,7 +56,7 @@ outlet-with-requires c κs =
     let p = entry k .pre in
     let at = k .before .loop .k in
     let l = k .loop-test .taken in
-    (p .got-most at l, (omega (arith, p .drawn-most at l), p .water-most at l))
+    rw (here k) (p .got-most at l, (omega (arith, p .drawn-most at l), p .water-most at l))
 
 mul-list : tie.Need-mul-list Inv-loop μ-loop
 mul-list c = let l = few (c .before .before) in omega (arith, l)
@@ -73,7 +77,7 @@ loop-again c =
     let a = entry k .args in
     let w = k .before .loop .inv in
     let l = few k in
-    (omega (arith, k .loop-test .taken), written-more noOutlet (outletWith (a .outlets) (a .t2)) (a .outlets .list) (k .before .loop .k) _ _ (w .1) (omega (arith, l, list-long (entry k))) (c .outlet-with .ensures))
+    (omega (arith, k .loop-test .taken), written-more noOutlet (outletWith (a .outlets) (a .t2)) (a .outlets .list) (k .before .loop .k) _ _ (w .1) (omega (arith, l, list-long (entry k))) (rw (here k) at (c .outlet-with .ensures)))
 
 returns : tie.Need-returns Inv-loop μ-loop
 unfolding withDraws eachOutlet

@@ -16,6 +16,7 @@ use Rattle.numbers.proofs.IndexLaws.{zeros}
 use Rattle.flux.specs.Limits.{depthMost}
 use Rattle.flux.specs.Ranges.{Mesh}
 use Rattle.cfl.specs.Cfl.{meetsCfl}
+use Rattle.drawing.specs.Ranges.{Granted}
 use Rattle.reach.specs.Limits.{cellsMost}
 use Rattle.reach.specs.Reach.{Reach, reachOf, cells}
 use Rattle.reach.proofs.GroundsLaws.{passed, refused-by}
@@ -40,7 +41,7 @@ whole : (s : tie.Start) → Sound (reach s)
 whole s = sound (reach s) (s .args .held .boundaries) (s .pre .0)
 
 fine : (s : tie.Start) → Mesh (s .args .t) (s .args .x)
-fine s = mesh (reach s) (whole s) (s .args .t) (s .pre .1)
+fine s = mesh (reach s) (whole s) (s .args .t) (s .pre .1 .0)
 
 -- ---- after the sweep
 
@@ -49,37 +50,37 @@ entry c = c .before .before .before .before .before .before .before .before .bef
 
 -- what is wanted of each cell
 abbrev wants : tie.After-sweep → List ℕ
-wants c = c .before .before .before .before .before .before .before .before .before .wants-by-cell .last .1 .0
+wants c = c .before .before .before .before .before .before .before .before .wants-by-cell .last .1 .0
 
 wanted : (c : tie.After-sweep) → wants c ≡ tabulate cellsMost (λ i. sum (wantsFrom (entry c .args .held .outlets) i))
-wanted c = c .before .before .before .before .before .before .before .before .before .wants-by-cell .ensures
+wanted c = c .before .before .before .before .before .before .before .before .wants-by-cell .ensures
 
 abbrev net : tie.After-sweep → List ℤ
-net c = c .sweep .last .1 .1 .1 .1 .1 .1 .1 .0
+net c = c .sweep .last .1 .1 .1 .1 .1 .1 .0
 
 abbrev given : tie.After-sweep → List ℕ
-given c = c .sweep .last .1 .1 .1 .1 .1 .1 .1 .1 .0
+given c = c .sweep .last .1 .1 .1 .1 .1 .1 .1 .0
 
 abbrev depth : tie.After-sweep → List ℕ
-depth c = c .sweep .last .1 .1 .1 .1 .1 .1 .1 .1 .1 .0
+depth c = c .sweep .last .1 .1 .1 .1 .1 .1 .1 .1 .0
 
 abbrev discharge : tie.After-sweep → List ℤ
-discharge c = c .sweep .last .1 .1 .1 .1 .1 .1 .1 .1 .1 .1 .0
+discharge c = c .sweep .last .1 .1 .1 .1 .1 .1 .1 .1 .1 .0
 
 swept : (c : tie.After-sweep) → Swept (reach (entry c)) (entry c .args .t) (wants c) (net c) (given c) (depth c) (discharge c)
 swept c = swept-same (reach (entry c)) (entry c .args .t) (wants c) (net c) (given c) (depth c) (discharge c) (c .sweep .ensures .1 .0)
 
 net-length : (c : tie.After-sweep) → length (net c) ≡ 513
-net-length c = c .sweep .kept .1 .1 .1 .1 .1 .1 .1 .0
+net-length c = c .sweep .kept .1 .1 .1 .1 .1 .1 .0
 
 given-length : (c : tie.After-sweep) → length (given c) ≡ 512
-given-length c = c .sweep .kept .1 .1 .1 .1 .1 .1 .1 .1 .0
+given-length c = c .sweep .kept .1 .1 .1 .1 .1 .1 .1 .0 ∙ c .before .before .before .before .before .before .before .before .wants-by-cell .kept .1 .0
 
 depth-length : (c : tie.After-sweep) → length (depth c) ≡ 512
-depth-length c = c .sweep .kept .1 .1 .1 .1 .1 .1 .1 .1 .1 .0
+depth-length c = c .sweep .kept .1 .1 .1 .1 .1 .1 .1 .1 .0
 
 discharge-length : (c : tie.After-sweep) → length (discharge c) ≡ 512
-discharge-length c = c .sweep .kept .1 .1 .1 .1 .1 .1 .1 .1 .1 .1 .0
+discharge-length c = c .sweep .kept .1 .1 .1 .1 .1 .1 .1 .1 .1 .0
 
 depths-found : (c : tie.After-sweep) → (i : ℕ) → i < cells (reach (entry c)) → getD (depth c) i 0 ≡ positive (newDepth (reach (entry c)) (entry c .args .t) i)
 depths-found c = depth-of (reach (entry c)) (whole (entry c)) (entry c .args .t) (wants c) (wanted c) (net c) (given c) (depth c) (discharge c) (swept c)
@@ -96,7 +97,7 @@ slice-aggregate-wants-by-cell c = search needs
 
 wants-by-cell-requires : tie.Need-wants-by-cell-requires
 wants-by-cell-requires c κs =
-    let k = whole (c .before .before .before .before .before .before) in
+    let k = whole (c .before .before .before .before .before .before .before) in
     (outlets-few _ _ (k .outlets), ((λ j l. let o = outlet-sound _ _ (k .outlets) j l in (omega (arith, o .cell, k .few), o .want)), zeros 512))
 
 slice-aggregate-sweep : tie.Need-slice-aggregate-sweep
@@ -111,15 +112,12 @@ slice-aggregate-sweep-3 c = search needs
 slice-aggregate-sweep-4 : tie.Need-slice-aggregate-sweep-4
 slice-aggregate-sweep-4 c = search needs
 
-slice-aggregate-sweep-5 : tie.Need-slice-aggregate-sweep-5
-slice-aggregate-sweep-5 c = search needs
-
 sweep-requires : tie.Need-sweep-requires
 sweep-requires c κs =
     let s = c .before .before .before .before .before .before .before .before .before .before .before .before .before .before .before in
     let k = whole s in
     let n = k .few in
-    ((fine s, water-fits (reach s) k), ((omega (arith, n, wanted-long (reach s) k (s .args .t) _ (c .before .before .before .before .before .before .before .before .wants-by-cell .ensures)), omega (arith, n)), (omega (arith, n), (omega (arith, n), omega (arith, n)))))
+    ((fine s, water-fits (reach s) k), (omega (arith, n), (omega (arith, n, wanted-long (reach s) k (s .args .t) _ (c .before .before .before .before .before .before .before .wants-by-cell .ensures)), (omega (arith, n), omega (arith, n)))))
 
 enum-told : tie.Need-enum-told
 enum-told c = search needs
@@ -143,7 +141,7 @@ returns c =
     let a = s .args in
     subst (λ (r : StepAnswer). StepCameTo (reach s) (a .t) r (now (a .depth)) (now (a .discharge)) (now (a .mass)) (now (a .base)) (now (a .carried))) (sym (c .stopped .ensures))
     (stayed (reach s) (a .t) 11 (omega arith)
-    (stopped-11 (reach s) (a .t) (s .pre .0) (s .pre .1) (met-same s (refused-by 11 _ _ _ (w .sweep .ensures .0) (c .before .enum-told2 .given .1)))))
+    (stopped-11 (reach s) (a .t) (s .pre .0) (s .pre .1 .0) (met-same s (refused-by 11 _ _ _ (w .sweep .ensures .0) (c .before .enum-told2 .given .1)))))
 
 -- ground 11 stood
 abbrev swung : tie.After-enum-told → tie.After-sweep
@@ -185,7 +183,7 @@ returns-2 c =
     let a = s .args in
     let f = sym (tested w) ∙ refused-by 12 _ _ _ (c .before .before .before .check-depths .ensures) (c .before .enum-told4 .given .1) in
     subst (λ (r : StepAnswer). StepCameTo (reach s) (a .t) r (now (a .depth)) (now (a .discharge)) (now (a .mass)) (now (a .base)) (now (a .carried))) (sym (c .stopped2 .ensures))
-    (stayed (reach s) (a .t) 12 (omega arith) (stopped-12 (reach s) (a .t) (s .pre .0) (s .pre .1) (cfl m) f))
+    (stayed (reach s) (a .t) 12 (omega arith) (stopped-12 (reach s) (a .t) (s .pre .0) (s .pre .1 .0) (cfl m) f))
 
 abbrev told : tie.After-enum-told3 → tie.After-enum-told
 told c = c .before .before .before .before
@@ -198,34 +196,30 @@ abbrev over : tie.After-enum-told3 → tie.After-sweep
 over c = swung (told c)
 
 slice-aggregate-deal-out : tie.Need-slice-aggregate-deal-out
-slice-aggregate-deal-out c = sym (over (c .before) .before .before .before .before .before .before .before .before .before .wants-by-cell .kept .1 .0)
-
-slice-aggregate-deal-out-2 : tie.Need-slice-aggregate-deal-out-2
-slice-aggregate-deal-out-2 c = sym (given-length (over (c .before .before)))
+slice-aggregate-deal-out c = sym (given-length (over (c .before)))
 
 deal-out-requires : tie.Need-deal-out-requires
 deal-out-requires c κs =
-    let w = over (c .before .before) in
-    let s = entry w in (
-      grants (reach s) (whole s) (s .args .t) (wants w) (wanted w) (net w) (given w) (depth w) (discharge w) (swept w) (given-length w) (λ i l. w .sweep .ensures .1 .1 i l ∙ zeros 512 i),
-      given-length w,
-    )
+    let w = over (c .before) in
+    let s = entry w in
+    subst (λ (ws : List ℕ). Granted (s .args .held .outlets) ws (given w)) (wanted w)
+    (grants (reach s) (whole s) (s .args .t) (wants w) (wanted w) (net w) (given w) (depth w) (discharge w) (swept w) (given-length w) (w .sweep .ensures .1 .1))
 
 slice-aggregate-complete : tie.Need-slice-aggregate-complete
-slice-aggregate-complete c = sym (net-length (over (c .before .before .before .before .before .before .before .before .before)))
+slice-aggregate-complete c = sym (net-length (over (c .before .before .before .before .before .before .before .before)))
 
 slice-aggregate-complete-2 : tie.Need-slice-aggregate-complete-2
-slice-aggregate-complete-2 c = sym (given-length (over (c .before .before .before .before .before .before .before .before .before .before)))
+slice-aggregate-complete-2 c = sym (given-length (over (c .before .before .before .before .before .before .before .before .before)))
 
 slice-aggregate-complete-3 : tie.Need-slice-aggregate-complete-3
-slice-aggregate-complete-3 c = sym (depth-length (over (c .before .before .before .before .before .before .before .before .before .before .before)))
+slice-aggregate-complete-3 c = sym (depth-length (over (c .before .before .before .before .before .before .before .before .before .before)))
 
 slice-aggregate-complete-4 : tie.Need-slice-aggregate-complete-4
-slice-aggregate-complete-4 c = sym (discharge-length (over (c .before .before .before .before .before .before .before .before .before .before .before .before)))
+slice-aggregate-complete-4 c = sym (discharge-length (over (c .before .before .before .before .before .before .before .before .before .before .before)))
 
 complete-requires : tie.Need-complete-requires
 complete-requires c κs =
-    let m = c .before .before .before .before .before .before .before .before .before .before .before .before in
+    let m = c .before .before .before .before .before .before .before .before .before .before .before in
     let w = over m in
     let s = entry w in
     let k = whole s in
@@ -234,18 +228,21 @@ complete-requires c κs =
     let found : (i : ℕ) → i < cells r → i < 512 = λ i l. omega (arith, l, k .few) in (
       s .pre .0,
       (
-        record { time = s .pre .1; cfl = cfl (told m); deep = deep m },
-        record {
-          net-long = omega (arith, net-length w, k .few);
-          given-long = omega (arith, given-length w, k .few);
-          depth-long = omega (arith, depth-length w, k .few);
-          discharge-long = omega (arith, discharge-length w, k .few);
-          nets = swept w .nets;
-          grants = grant-of r k t (wants w) (wanted w) (net w) (given w) (depth w) (discharge w) (swept w);
-          depths = depths-found w;
-          discharges = discharge-of r k t (wants w) (wanted w) (net w) (given w) (depth w) (discharge w) (swept w);
-          gots = got-of r k t (wants w) (wanted w) (net w) (given w) (depth w) (discharge w) (swept w) _ (c .before .before .before .before .before .before .before .before .before .deal-out .ensures);
-        },
+        record { time = s .pre .1 .0; cfl = cfl (told m); deep = deep m },
+        (
+          record {
+            net-long = omega (arith, net-length w, k .few);
+            given-long = omega (arith, given-length w, k .few);
+            depth-long = omega (arith, depth-length w, k .few);
+            discharge-long = omega (arith, discharge-length w, k .few);
+            nets = swept w .nets;
+            grants = grant-of r k t (wants w) (wanted w) (net w) (given w) (depth w) (discharge w) (swept w);
+            depths = depths-found w;
+            discharges = discharge-of r k t (wants w) (wanted w) (net w) (given w) (depth w) (discharge w) (swept w);
+            gots = got-of r k t (wants w) (wanted w) (net w) (given w) (depth w) (discharge w) (swept w) _ (c .before .before .before .before .before .before .before .before .before .deal-out .ensures);
+          },
+          s .pre .1 .1,
+        ),
       ),
     )
 
@@ -277,7 +274,6 @@ advance-spec =
     slice-aggregate-sweep-2
     slice-aggregate-sweep-3
     slice-aggregate-sweep-4
-    slice-aggregate-sweep-5
     sweep-requires
     enum-told
     enum-told-2
@@ -294,7 +290,6 @@ advance-spec =
     same-length-4
     returns-2
     slice-aggregate-deal-out
-    slice-aggregate-deal-out-2
     deal-out-requires
     slice-aggregate-complete
     slice-aggregate-complete-2

@@ -10,7 +10,6 @@ use lib.ListN.{length, getD}
 use mir.Facts.{toZ-ofZ}
 use borrow.Author.Needs.{needs, sfits-of}
 use Rattle.numbers.specs.Index.{tabulate}
-use Rattle.numbers.proofs.IndexLaws.{zeros}
 use Rattle.flux.specs.Ranges.{Mesh}
 use Rattle.reach.specs.Limits.{cellsMost}
 use Rattle.reach.specs.Ranges.{cutDrawn, alone}
@@ -18,7 +17,7 @@ use Rattle.reach.specs.Reach.{Reach, reachOf, cells}
 use Rattle.reach.specs.Grounds.{allTotalsFit}
 use Rattle.reach.specs.declared.held.Held.{Held}
 use Rattle.reach.proofs.GroundsLaws.{passed, refused-by}
-use Rattle.reach.proofs.Sound.{Sound, sound, outlets-few, outlet-sound, ledger-fits}
+use Rattle.reach.proofs.Sound.{Sound, sound, outlets-few, ledger-fits}
 use Rattle.transport.specs.Ranges.{massColumnsWith}
 use Rattle.transport.proofs.CallsLaws.{ready-with, drawn-long, outlets-ready}
 use Rattle.update.specs.Step.{keepsSums, transportedFirst, stepOutlets, stepHeld, afterStep}
@@ -41,28 +40,28 @@ fine : (s : tie.Start) → Mesh (s .args .t) (s .args .x)
 fine s = mesh (reach s) (whole s) (s .args .t) (s .pre .1 .0 .time)
 
 found : (s : tie.Start) → StepFound (reach s) (s .args .t) (now (s .args .net)) (now (s .args .given)) (now (s .args .new-depth)) (now (s .args .new-discharge)) (s .args .got)
-found s = s .pre .1 .1
+found s = s .pre .1 .1 .0
+
+drawn : (s : tie.Start) → now (s .args .drawn) ≡ tabulate cellsMost (cutDrawn (s .args .held .outlets))
+drawn s = s .pre .1 .1 .1
 
 -- ---- from place to place
 
-abbrev entry : tie.After-drawn3 → tie.Start
-entry c = c .before .before .before .before .before .before .before .before .before .before .before .before
+abbrev entry : tie.After-keeps-sums-arg2 → tie.Start
+entry c = c .before .before .before .before .before .before .before .before
 
--- from what is booked to what is drawn
+-- from what is booked to the transport test
 abbrev kept : tie.After-book → tie.After-keeps-sums
-kept c = c .before .before .before .before .before .before .before
+kept c = c .before .before .before .before .before .before
 
 abbrev start : tie.After-book → tie.Start
 start c = entry (kept c .before)
-
-drawn : (c : tie.After-drawn3) → c .before .before .before .before .drawn-by-cell .last .1 .0 ≡ tabulate cellsMost (cutDrawn (entry c .args .held .outlets))
-drawn c = c .before .before .before .before .drawn-by-cell .ensures
 
 -- the transport test
 transporting : (c : tie.After-keeps-sums) → not (c .keeps-sums .result) ≡ not (keepsSums (reach (entry (c .before))) (entry (c .before) .args .t))
 transporting c =
     let s = entry (c .before) in
-    ap not (c .keeps-sums .ensures ∙ sums-are (reach s) (whole s) (s .args .t) (s .pre .1 .0 .cfl) _ _ _ _ _ (found s) _ (drawn (c .before)))
+    ap not (c .keeps-sums .ensures ∙ sums-are (reach s) (whole s) (s .args .t) (s .pre .1 .0 .cfl) _ _ _ _ _ (found s) _ (drawn s))
 
 -- what is held after the step
 booked : (c : tie.After-book) → c .book .result .held ≡ stepHeld (reach (start c)) (start c .args .t)
@@ -70,55 +69,39 @@ booked c =
     let s = start c in
     let e = rw (toZ-ofZ (sfits-of (c .before .before .book-arg4 .given)), toZ-ofZ (sfits-of (c .before .book-arg5 .given))) at (c .book .ensures .1) in
     e
-    ∙ held-after (reach s) (whole s) (s .args .t) (s .pre .1 .0 .cfl) _ _ _ _ _ (found s) _ (transporting (kept c)) _ (drawn (kept c .before)) _ _ _ _ (c .book .ensures .0) _ _
+    ∙ held-after (reach s) (whole s) (s .args .t) (s .pre .1 .0 .cfl) _ _ _ _ _ (found s) _ (transporting (kept c)) _ (drawn s) _ _ _ _ (c .book .ensures .0) _ _
     (found s .nets 0 (omega arith)) (found s .nets (cells (reach s)) (omega arith))
-
-slice-aggregate-drawn-by-cell : tie.Need-slice-aggregate-drawn-by-cell
-slice-aggregate-drawn-by-cell c = search needs
-
-drawn-by-cell-requires : tie.Need-drawn-by-cell-requires
-drawn-by-cell-requires c κs =
-    let s = c .before .before .before .before .before .before .before in
-    let k = whole s in
-    (outlets-few _ _ (k .outlets), ((λ j l. omega (arith, outlet-sound _ _ (k .outlets) j l .cell, k .few)), zeros 512))
-
-slice-aggregate-keeps-sums : tie.Need-slice-aggregate-keeps-sums
-slice-aggregate-keeps-sums c = search needs
 
 keeps-sums-requires : tie.Need-keeps-sums-requires
 keeps-sums-requires c κs =
     let s = entry c in
     let k = whole s in
-    (summable (reach s) k (s .args .t) (s .pre .1 .0 .cfl) _ _ _ _ _ (found s) (fine s), drawable (reach s) k (s .args .t) (s .pre .1 .0 .cfl) _ _ _ _ _ (found s) _ (drawn c))
-
-slice-aggregate-book : tie.Need-slice-aggregate-book
-slice-aggregate-book c = search needs
+    (summable (reach s) k (s .args .t) (s .pre .1 .0 .cfl) _ _ _ _ _ (found s) (fine s), drawable (reach s) k (s .args .t) (s .pre .1 .0 .cfl) _ _ _ _ _ (found s) _ (drawn s))
 
 shared-slice-copy-out-book : tie.Need-shared-slice-copy-out-book
-shared-slice-copy-out-book c = let s = entry (c .before .before .before .before .before) in omega (arith, found s .net-long)
+shared-slice-copy-out-book c = let s = entry (c .before .before .before .before) in omega (arith, found s .net-long)
 
 mul-book : tie.Need-mul-book
-mul-book c = let s = entry (c .before .before .before .before .before .before) in omega (arith, whole s .few)
+mul-book c = let s = entry (c .before .before .before .before .before) in omega (arith, whole s .few)
 
 shared-slice-copy-out-book-2 : tie.Need-shared-slice-copy-out-book-2
-shared-slice-copy-out-book-2 c = let s = entry (c .before .before .before .before .before .before) in found s .net-long
+shared-slice-copy-out-book-2 c = let s = entry (c .before .before .before .before .before) in found s .net-long
 
 book-requires : tie.Need-book-requires
 book-requires c κs =
-    let d = c .before .before .before .before .before .before .before in
-    let s = entry d in
+    let s = entry (c .before .before .before .before .before .before) in
     let k = whole s in
     let r = reach s in
     let t = s .args .t in
     let cfl = s .pre .1 .0 .cfl in
-    let e = transporting (c .before .before .before .before .before .before) in
+    let e = transporting (c .before .before .before .before .before) in
     let at = net-at r k t cfl _ _ _ _ _ (found s) (fine s) in
     rw (toZ-ofZ (sfits-of (c .before .book-arg4 .given)), toZ-ofZ (sfits-of (c .book-arg5 .given))) (
-      ready-with r k _ (drawn d),
+      ready-with r k _ (drawn s),
       (
-        ((omega (arith, k .some, k .masses), drawn-long r k _ (drawn d)), outlets-ready r k),
+        ((omega (arith, k .some, k .masses), drawn-long r k _ (drawn s)), outlets-ready r k),
         (
-          (λ a b c o y. small-when r k t cfl _ _ _ _ _ (found s) _ e _ (drawn d) a b c o y),
+          (λ a b c o y. small-when r k t cfl _ _ _ _ _ (found s) _ e _ (drawn s) a b c o y),
           (
             (room r k t cfl _ _ _ _ _ (found s), room-when r k t cfl _ _ _ _ _ (found s) _ e),
             (ledger-fits _ (k .totals), (at 0 (omega arith), at (cells r) (omega arith))),
@@ -161,15 +144,12 @@ returns c =
     subst (λ (r : StepAnswer). StepCameTo (reach s) (a .t) r (now (a .depth)) (now (a .discharge)) (now (a .mass)) (now (a .base)) (now (a .carried))) (sym (c .stopped .ensures))
     (stayed (reach s) (a .t) 13 (omega arith) (stopped-13 (reach s) (a .t) (s .pre .0) (p .time) (p .cfl) (p .deep) f))
 
-slice-aggregate-transport-when : tie.Need-slice-aggregate-transport-when
-slice-aggregate-transport-when c = sym (kept (c .before .before .before .before .before .before .before .before .before .before) .before .before .before .before .before .drawn-by-cell .kept .1 .0)
-
 transport-when-requires : tie.Need-transport-when-requires
 transport-when-requires c κs =
-    let b = c .before .before .before .before .before .before .before .before .before .before in
+    let b = c .before .before .before .before .before .before .before .before .before in
     let s = start b in
     let k = whole s in
-    let d = drawn (kept b .before) in (
+    let d = drawn s in (
       ready-when (reach s) k (s .args .t) (s .pre .1 .0 .cfl) _ _ _ _ _ (found s) _ (transporting (kept b)) _ d _ _ _ _ (b .book .ensures .0),
       (k .bases ∙ sym (k .depths), drawn-long (reach s) k _ d),
     )
@@ -179,7 +159,7 @@ abbrev carried : tie.After-transport-when → List ℤ
 carried c = c .transport-when .last .1 .1 .1 .1 .0
 
 abbrev told : tie.After-transport-when → tie.After-book
-told c = c .before .before .before .before .before .before .before .before .before .before .before
+told c = c .before .before .before .before .before .before .before .before .before .before
 
 carried-transported : (c : tie.After-transport-when) → carried c ≡ transportedFirst (reach (start (told c))) (start (told c) .args .t) .carried
 carried-transported c =
@@ -227,7 +207,7 @@ returns-2 c =
     let e = transporting (kept b) in
     let wrote = c .before .before .before .before .write-step .ensures in
     let moved = m .transport-when .ensures in
-    let g = m .before .before .before .before .before .before in
+    let g = m .before .before .before .before .before in
     let fits = sym (ap allTotalsFit (booked b)) ∙ passed 13 _ _ (g .before .before .check-room .ensures) (g .enum-told .given .1) in
     came-out r t
     (stepped-on r t (s .pre .0) (p .time) (p .cfl) (p .deep) fits)
@@ -235,7 +215,7 @@ returns-2 c =
     e
     (wrote .0 ∙ depth-written r k t (p .cfl) _ _ _ _ _ w)
     (wrote .1 .0 ∙ discharge-written r k t (p .cfl) _ _ _ _ _ w)
-    (moved .0 ∙ mass-when r k t (p .cfl) _ _ _ _ _ w _ e _ (drawn (kept b .before)) _ _ _ _ (b .book .ensures .0))
+    (moved .0 ∙ mass-when r k t (p .cfl) _ _ _ _ _ w _ e _ (drawn s) _ _ _ _ (b .book .ensures .0))
     (moved .1 .0 ∙ base-when r k t (p .cfl) _ _ _ _ _ w _ e)
     (wrote .1 .1 ∙ carried-written r k t (p .cfl) _ _ _ _ _ w (carried m) (carried-transported m))
 
@@ -243,11 +223,7 @@ pub complete-spec : {M : Type 1} → statement M
 complete-spec =
     tie.close
     (tie.spec
-    slice-aggregate-drawn-by-cell
-    drawn-by-cell-requires
-    slice-aggregate-keeps-sums
     keeps-sums-requires
-    slice-aggregate-book
     shared-slice-copy-out-book
     mul-book
     shared-slice-copy-out-book-2
@@ -260,7 +236,6 @@ complete-spec =
     same-length-2
     same-length-3
     returns
-    slice-aggregate-transport-when
     transport-when-requires
     write-step-requires
     same-length-4

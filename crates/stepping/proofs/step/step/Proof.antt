@@ -1,9 +1,13 @@
 -- `stepping::step::step` meets its contract: it stops at grounds 4 to 10, or goes on to `advance`. Assumes nothing.
-use mathlib.Core.Path.{_≡_, sym, ap, _∙_, subst}
+use mathlib.Core.Path.{_≡_, refl, sym, ap, _∙_, subst}
 use denote.Ref.{now}
 use Prim.Native.Nat.{ℕ}
 use native.Mathlib.Omega.{arith}
 use borrow.Author.Needs.{needs}
+use Rattle.numbers.specs.Index.{tabulate}
+use Rattle.numbers.proofs.IndexLaws.{zeros}
+use Rattle.reach.specs.Limits.{cellsMost}
+use Rattle.reach.specs.Ranges.{cutDrawn}
 use Rattle.reach.specs.Reach.{Reach, reachOf}
 use Rattle.reach.specs.Grounds.{firstRefusal, recordGrounds, numberOf}
 use Rattle.reach.specs.declared.refusal.Check.{Check}
@@ -15,8 +19,8 @@ use Rattle.stepping.proofs.StepCallLaws.{stopped-before, stopped-10, st
 use Rattle.stepping.proofs.step.step.Statement.{statement}
 use Rattle.stepping.proofs.step.step.Tie as tie
 
-abbrev entry : tie.After-check-record → tie.Start
-entry c = c .before .before .before .before .before .before .before .before .before .before
+abbrev entry : tie.After-check-record-with → tie.Start
+entry c = c .before .before .before .before .before .before .before .before .before .before .before
 
 abbrev reach : tie.Start → Reach
 reach s =
@@ -28,11 +32,18 @@ as-it-came : (s : tie.Start) (r : StepAnswer) (n : ℕ) → r ≡ stoppedBy n (s
     → StepCameTo (reach s) (s .args .t) r (now (s .args .depth)) (now (s .args .discharge)) (now (s .args .mass)) (now (s .args .base)) (now (s .args .carried))
 as-it-came s r n e = subst (λ (r : StepAnswer). StepCameTo (reach s) (s .args .t) r (now (s .args .depth)) (now (s .args .discharge)) (now (s .args .mass)) (now (s .args .base)) (now (s .args .carried))) (sym e)
 
-checked : (c : tie.After-enum-told) → firstRefusal (recordGrounds (reach (entry (c .before .before))) (entry (c .before .before) .args .held .boundaries)) ≡ Pass
-checked c = sym (c .before .before .check-record .ensures) ∙ c .enum-told .given .1
+checked : (c : tie.After-enum-told) →
+    let s = entry (c .before .before .before) in
+    (firstRefusal (recordGrounds (reach s) (s .args .held .boundaries)) ≡ Pass) × (c .before .before .before .check-record-with .last .1 .1 .1 .1 .1 .1 .1 .1 .1 .0 ≡ tabulate cellsMost (cutDrawn (s .args .held .outlets)))
+checked c =
+    let e = c .before .before .before .check-record-with .ensures in
+    (sym (e .0) ∙ c .enum-told .given .1, e .1 (c .enum-told .given .1))
 
-check-record-requires : tie.Need-check-record-requires
-check-record-requires c κs = search needs
+slice-aggregate-check-record-with : tie.Need-slice-aggregate-check-record-with
+slice-aggregate-check-record-with c = search needs
+
+check-record-with-requires : tie.Need-check-record-with-requires
+check-record-with-requires c κs = record { long = refl; zeros = zeros 512 }
 
 enum-told : tie.Need-enum-told
 enum-told c = search needs
@@ -60,11 +71,11 @@ same-length-5 c = search needs
 
 returns : tie.Need-returns
 returns c =
-    let k = c .before .before .before in
+    let k = c .before .before .before .before in
     let s = entry k in
     let t = c .before .enum-told2 .given in
     let n = t .0 .0 in
-    let e = sym (k .check-record .ensures) ∙ t .1 in
+    let e = sym (k .check-record-with .ensures .0) ∙ t .1 in
     as-it-came s _ n (c .refused .ensures ∙ ap (λ (k : Check). stoppedBy (numberOf k) (s .args .held)) (t .1))
     (stayed (reach s) (s .args .t) n (refused-positive (reach s) n e) (stopped-before (reach s) (s .args .t) n e))
 
@@ -97,14 +108,18 @@ same-length-10 c = search needs
 
 returns-2 : tie.Need-returns-2
 returns-2 c =
-    let s = entry (c .before .before .before .before .before .before) in
+    let s = entry (c .before .before .before .before .before .before .before) in
     as-it-came s _ 10 (c .stopped .ensures)
     (stayed (reach s) (s .args .t) 10 (omega arith)
-    (stopped-10 (reach s) (s .args .t) (checked (c .before .before .before .before)) (refused-by 10 _ _ _ (c .before .before .before .check-time .ensures) (c .before .enum-told4 .given .1))))
+    (stopped-10 (reach s) (s .args .t) (checked (c .before .before .before .before) .0) (refused-by 10 _ _ _ (c .before .before .before .check-time .ensures) (c .before .enum-told4 .given .1))))
+
+slice-aggregate-advance : tie.Need-slice-aggregate-advance
+slice-aggregate-advance c = search needs
 
 advance-requires : tie.Need-advance-requires
 advance-requires c κs =
-    (checked (c .before .before .before .before .before .before .before .before), passed 10 _ _ (c .before .before .before .before .before .before .before .check-time .ensures) (c .before .before .before .before .before .enum-told3 .given .1))
+    let k = checked (c .before .before .before .before .before .before .before .before .before) in
+    (k .0, (passed 10 _ _ (c .before .before .before .before .before .before .before .before .check-time .ensures) (c .before .before .before .before .before .before .enum-told3 .given .1), k .1))
 
 same-length-11 : tie.Need-same-length-11
 same-length-11 c = search needs
@@ -128,7 +143,8 @@ pub step-spec : {M : Type 1} → statement M
 step-spec =
     tie.close
     (tie.spec
-    check-record-requires
+    slice-aggregate-check-record-with
+    check-record-with-requires
     enum-told
     enum-told-2
     refused-requires
@@ -148,6 +164,7 @@ step-spec =
     same-length-9
     same-length-10
     returns-2
+    slice-aggregate-advance
     advance-requires
     same-length-11
     same-length-12

@@ -25,24 +25,24 @@ use Rattle.water.proofs.sweep.sweep.Statement.{statement}
 use Rattle.water.proofs.sweep.sweep.Tie as tie
 
 abbrev Inv-loop : tie.InvT-loop
-Inv-loop t x z h q wanted net₀ given₀ depth₀ discharge₀ boundaries n cell₀ met₀ left₀ i₀ net given depth discharge cell met left i =
+Inv-loop t x z h q net₀ given₀ depth₀ discharge₀ boundaries n cell₀ met₀ left₀ i₀ net given depth discharge cell met left i =
     let s = flowOf z h q x boundaries in
     (i ≤ n)
     × Written (pos 0) (netAt s t) net₀ (i + 1) net
-    × Written 0 (λ k. positive (grantedDepth s t (getD wanted k 0) k)) depth₀ i depth
-    × Written (pos 0) (λ k. grantedDischarge s t (getD wanted k 0) k) discharge₀ i discharge
+    × Written 0 (λ k. positive (grantedDepth s t (getD given₀ k 0) k)) depth₀ i depth
+    × Written (pos 0) (λ k. grantedDischarge s t (getD given₀ k 0) k) discharge₀ i discharge
     × SideStateFits cell
     × (sideOf cell ≡ rightSide s i)
     × ExchangeOf t x (leftSide s i) (rightSide s i) (left .rightward) (left .leftward) (left .momentum) (left .«lost_left») (left .«lost_right»)
     × ExchangeFits left
     × (met ≡ (sideMeets t x (leftSide s 0) && allBelow (i + 1) (λ k. sideMeets t x (rightSide s k))))
-    × Written 0 (λ k. granted s t (getD wanted k 0) k) given₀ i given
+    × Written 0 (λ k. granted s t (getD given₀ k 0) k) given₀ i given
 
 abbrev μ-loop : tie.MeasureT-loop
-μ-loop t x z h q wanted net₀ given₀ depth₀ discharge₀ boundaries n cell₀ met₀ left₀ i₀ net given depth discharge cell met left i = n - i
+μ-loop t x z h q net₀ given₀ depth₀ discharge₀ boundaries n cell₀ met₀ left₀ i₀ net given depth discharge cell met left i = n - i
 
 abbrev entry : tie.After-net-of Inv-loop μ-loop → tie.Start Inv-loop μ-loop
-entry c = c .before .before .before .before .before .before .before .before .before .before .before .before .before .before
+entry c = c .before .before .before .before .before .before .before .before .before .before .before .before .before
 
 abbrev start : tie.In-loop Inv-loop μ-loop → tie.Start Inv-loop μ-loop
 start c = entry (c .before .before)
@@ -65,11 +65,11 @@ abbrev flow : tie.Start Inv-loop μ-loop → Reach
 flow s = flowOf (now (s .args .bed)) (now (s .args .depth)) (now (s .args .discharge)) (s .args .x) (s .args .t6)
 
 -- the first cell and the left boundary beside it
-first : (c : tie.After-cell-state Inv-loop μ-loop) → SideStateFits (c .cell-state .result) × (sideOf (c .cell-state .result) ≡ cellSide (flow (c .before .before .before .before .before .before .before .before)) 0)
+first : (c : tie.After-cell-state Inv-loop μ-loop) → SideStateFits (c .cell-state .result) × (sideOf (c .cell-state .result) ≡ cellSide (flow (c .before .before .before .before .before .before .before)) 0)
 unfolding cellSide
 first c = rw (toZ-ofZ (sfits-of (c .before .before .before .cell-state-arg .given)), toZ-ofZ (sfits-of (c .before .cell-state-arg2 .given))) at (c .cell-state .ensures)
 
-beyond : (c : tie.After-boundary-state Inv-loop μ-loop) → SideStateFits (c .boundary-state .result) × (sideOf (c .boundary-state .result) ≡ leftSide (flow (c .before .before .before .before .before .before .before .before .before .before)) 0)
+beyond : (c : tie.After-boundary-state Inv-loop μ-loop) → SideStateFits (c .boundary-state .result) × (sideOf (c .boundary-state .result) ≡ leftSide (flow (c .before .before .before .before .before .before .before .before .before)) 0)
 unfolding leftSide
 beyond c = (c .boundary-state .ensures .0, c .boundary-state .ensures .1 ∙ ap (boundarySide _ _) (first (c .before .before) .1))
 
@@ -119,29 +119,29 @@ shared-slice-copy-out-cell-state-2 c = omega arith
 
 cell-state-requires : tie.Need-cell-state-requires Inv-loop μ-loop
 cell-state-requires c κs =
-    let p = c .before .before .before .before .before .before .before .pre .0 .1 in
+    let p = c .before .before .before .before .before .before .pre .0 .1 in
     rw (toZ-ofZ (sfits-of (c .before .before .cell-state-arg .given)), toZ-ofZ (sfits-of (c .cell-state-arg2 .given))) (p .cell 0 (p .some))
 
 array-copy-out-boundary-state : tie.Need-array-copy-out-boundary-state Inv-loop μ-loop
 array-copy-out-boundary-state c = omega arith
 
 boundary-state-requires : tie.Need-boundary-state-requires Inv-loop μ-loop
-boundary-state-requires c κs = (first (c .before) .0, c .before .before .before .before .before .before .before .before .before .pre .0 .1 .left)
+boundary-state-requires c κs = (first (c .before) .0, c .before .before .before .before .before .before .before .before .pre .0 .1 .left)
 
 still-meets-requires : tie.Need-still-meets-requires Inv-loop μ-loop
-still-meets-requires c κs = (c .before .before .before .before .before .before .before .before .before .before .pre .0 .0, beyond c .0)
+still-meets-requires c κs = (c .before .before .before .before .before .before .before .before .before .pre .0 .0, beyond c .0)
 
 still-meets-requires-2 : tie.Need-still-meets-requires-2 Inv-loop μ-loop
-still-meets-requires-2 c κs = (c .before .before .before .before .before .before .before .before .before .before .before .pre .0 .0, first (c .before .before .before) .0)
+still-meets-requires-2 c κs = (c .before .before .before .before .before .before .before .before .before .before .pre .0 .0, first (c .before .before .before) .0)
 
 exchange-between-requires : tie.Need-exchange-between-requires Inv-loop μ-loop
-exchange-between-requires c κs = (c .before .before .before .before .before .before .before .before .before .before .before .before .pre .0 .0, (beyond (c .before .before) .0, first (c .before .before .before .before) .0))
+exchange-between-requires c κs = (c .before .before .before .before .before .before .before .before .before .before .before .pre .0 .0, (beyond (c .before .before) .0, first (c .before .before .before .before) .0))
 
 net-of-requires : tie.Need-net-of-requires Inv-loop μ-loop
 net-of-requires c κs = c .exchange-between .ensures .1
 
 slice-set-from-net : tie.Need-slice-set-from-net Inv-loop μ-loop
-slice-set-from-net c = let p = entry c .pre .1 .1 .0 in omega (arith, p)
+slice-set-from-net c = let p = entry c .pre .1 .0 in omega (arith, p)
 
 loop-holds : tie.Need-loop-holds Inv-loop μ-loop
 unfolding allBelow
@@ -155,7 +155,7 @@ loop-holds c =
     let k = exchange-at (b .1) r (e .0) in
     let meets = sideMeets (s .args .t) (s .args .x) in (
       omega arith,
-      written-first (pos 0) (netAt (flow s) (s .args .t)) (now (s .args .net)) (stored c) (omega (arith, s .pre .1 .1 .0)) (toZ-ofZ (sfits-of (c .net-of .ok)) ∙ c .net-of .ensures ∙ sym (net-by-crossing (flow s) (s .args .t) 0 k)),
+      written-first (pos 0) (netAt (flow s) (s .args .t)) (now (s .args .net)) (stored c) (omega (arith, s .pre .1 .0)) (toZ-ofZ (sfits-of (c .net-of .ok)) ∙ c .net-of .ensures ∙ sym (net-by-crossing (flow s) (s .args .t) 0 k)),
       written-none _ _ _,
       written-none _ _ _,
       a .0,
@@ -192,11 +192,11 @@ shared-slice-read-granted-of c =
 mul-granted-of-2 : tie.Need-mul-granted-of-2 Inv-loop μ-loop
 mul-granted-of-2 c = let l = index (turn (c .before)) in omega (arith, l .1)
 
-shared-slice-read-granted-of-2 : tie.Need-shared-slice-read-granted-of-2 Inv-loop μ-loop
-shared-slice-read-granted-of-2 c =
+slice-read-granted-of : tie.Need-slice-read-granted-of Inv-loop μ-loop
+slice-read-granted-of c =
     let k = turn (c .before .before) in
     let l = index k in
-    omega (arith, l .0, start k .pre .1 .0 .0)
+    omega (arith, l .0, start k .pre .1 .1 .0, k .before .loop .inv .9 .long)
 
 granted-of-requires : tie.Need-granted-of-requires Inv-loop μ-loop
 granted-of-requires c κs = (turn (c .before .before) .before .loop .inv .7, crossing (c .before .before) .1)
@@ -231,7 +231,7 @@ slice-set-from-new-discharge : tie.Need-slice-set-from-new-discharge Inv-loop μ
 slice-set-from-new-discharge c =
     let k = cell-at c in
     let l = index k in
-    omega (arith, l .0, start k .pre .1 .1 .0, net-length k)
+    omega (arith, l .0, start k .pre .1 .0, net-length k)
 
 mul-given : tie.Need-mul-given Inv-loop μ-loop
 mul-given c = let l = index (cell-at c) in omega (arith, l .1)
@@ -240,7 +240,7 @@ slice-write-given : tie.Need-slice-write-given Inv-loop μ-loop
 slice-write-given c =
     let k = cell-at c in
     let l = index k in
-    omega (arith, l .0, start k .pre .1 .0 .1, k .before .loop .inv .9 .long)
+    omega (arith, l .0, start k .pre .1 .1 .0, k .before .loop .inv .9 .long)
 
 mul-new-depth : tie.Need-mul-new-depth Inv-loop μ-loop
 mul-new-depth c = let l = index (cell-at c) in omega (arith, l .1)
@@ -274,8 +274,8 @@ momentum-after-requires c κs =
       (omega (arith, f .0, l .rightward-most, r .leftward-most, d .depth-after .ensures), (l, r)),
     )
 
-mul-t42 : tie.Need-mul-t42 Inv-loop μ-loop
-mul-t42 c = let l = index (cell-at (c .before .before)) in omega (arith, l .1)
+mul-t41 : tie.Need-mul-t41 Inv-loop μ-loop
+mul-t41 c = let l = index (cell-at (c .before .before)) in omega (arith, l .1)
 
 slice-set-from-new-discharge-2 : tie.Need-slice-set-from-new-discharge-2 Inv-loop μ-loop
 slice-set-from-new-discharge-2 c =
@@ -302,11 +302,11 @@ loop-again c =
     let l = index k .0 in
     let n = next (g .before) in
     let r = crossing g in
-    let want : ℕ → ℕ = λ j. getD (now (a .wanted)) j 0 in
-    let taken = left-with d .granted-of .ensures in
+    let want : ℕ → ℕ = λ j. getD (now (a .given)) j 0 in
+    let taken = left-with d .granted-of .ensures ∙ ap (min _) (w .9 .same i (omega arith)) in
     let depth = rw taken at (d .depth-after .ensures) in (
       omega (arith, l),
-      written-more (pos 0) (netAt s (a .t)) _ (i + 1) _ _ (w .1) (omega (arith, l, start k .pre .1 .1 .0, net-length k, w .1 .long))
+      written-more (pos 0) (netAt s (a .t)) _ (i + 1) _ _ (w .1) (omega (arith, l, start k .pre .1 .0, net-length k, w .1 .long))
           (toZ-ofZ (sfits-of (m .net-of2 .ok)) ∙ m .net-of2 .ensures ∙ sym (net-by-crossing s (a .t) (i + 1) (r .0))),
       written-more 0 (λ j. positive (grantedDepth s (a .t) (want j) j)) _ i _ _ (w .2) (omega (arith, l, start k .pre .1 .1 .1 .0))
           (depth ∙ sym (depth-by-crossings s (a .t) i l (w .6) (r .0) (want i))),
@@ -317,7 +317,7 @@ loop-again c =
       r .0,
       r .1,
       m .before .still-meets3 .ensures ∙ ap₂ _&&_ (w .8) (ap (sideMeets (a .t) (a .x)) (n .1)) ∙ meets-more (sideMeets (a .t) (a .x) (leftSide s 0)) (λ j. sideMeets (a .t) (a .x) (rightSide s j)) i,
-      written-more 0 (λ j. granted s (a .t) (want j) j) _ i _ _ (w .9) (omega (arith, l, start k .pre .1 .0 .1))
+      written-more 0 (λ j. granted s (a .t) (want j) j) _ i _ _ (w .9) (omega (arith, l, start k .pre .1 .1 .0))
           (taken ∙ sym (grant-by-crossings s (a .t) i l (w .6) (r .0) (want i))),
     )
 
@@ -382,7 +382,7 @@ sweep-spec =
     mul-granted-of
     shared-slice-read-granted-of
     mul-granted-of-2
-    shared-slice-read-granted-of-2
+    slice-read-granted-of
     granted-of-requires
     mul-depth-after
     shared-slice-read-depth-after
@@ -399,7 +399,7 @@ sweep-spec =
     mul-momentum-after
     shared-slice-copy-out-momentum-after
     momentum-after-requires
-    mul-t42
+    mul-t41
     slice-set-from-new-discharge-2
     add-i
     loop-less
