@@ -2,18 +2,20 @@
 use mathlib.Core.Path.{_≡_, refl, sym, ap, _∙_, subst}
 use mathlib.Core.Bool.{Bool, true, false, cond, _&&_, and-true}
 use mathlib.Core.List.{List, [], _∷_}
-use Prim.Native.Nat.{ℕ, suc, _+_, _-_, _*_, _/_, _≤_, _<_}
+use Prim.Native.Nat.{ℕ, suc, _+_, _-_, _*_, _/_, _≤_, _<_, min}
 use native.Mathlib.Nat.{add-zero}
 use native.Mathlib.Omega.{arith}
 use borrow.Author.Tests.{le-leb, leb-true}
 use denote.Ref.{now}
-use lib.Dec.{leb, eqb}
+use lib.Dec.{leb, ltb, eqb}
 use lib.IntN.{ℤ, pos, negℤ, _+ℤ_, _-ℤ_}
-use lib.ListN.{getD}
+use lib.ListN.{length, getD}
 use Rattle.numbers.specs.Index.{allOf, allBelow, sumBelow, sum, tabulate}
+use Rattle.numbers.specs.Deal.{floors, unitsLeft, weighingBelow}
 use Rattle.numbers.specs.Shares.{share}
 use Rattle.numbers.specs.Signed.{positive}
-use Rattle.numbers.proofs.IndexLaws.{all-at, all-below, all-same, getD-tabulate, sum-same}
+use Rattle.numbers.proofs.IndexLaws.{all-at, all-below, all-same, length-tabulate, getD-tabulate, sum-same, sum-tabulate}
+use Rattle.numbers.proofs.DealLaws.{floors-tabulate, dealt-at}
 use Rattle.numbers.proofs.SignedLaws.{from-cross, minus-cross, pos-cross}
 use Rattle.numbers.proofs.RootLaws.{square-root-low, square-root-greatest}
 use Rattle.flux.specs.Wave.{waveSpeed}
@@ -38,9 +40,10 @@ use Rattle.transport.proofs.CallsLaws.{emptied-at, by-transport, stands-again, 
 use Rattle.timestep.specs.GreatestStep.{placeSpeed, greatest, greatestTime, greatestPlace}
 use Rattle.timestep.specs.declared.GreatestAnswer.{GreatestAnswer}
 use Rattle.timestep.proofs.GreatestLaws.{time-in-range, dry-reach}
-use Rattle.water.specs.Water.{netAt, wantsFrom, draws, newDepth, undrawnDepth}
+use Rattle.water.specs.Water.{netAt, available, wantsFrom, draws, drawOf, newDepth, undrawnDepth}
+use Rattle.water.specs.Sides.{cellSide}
 use Rattle.water.specs.Ranges.{granted}
-use Rattle.water.proofs.WaterLaws.{granted-is, draw-most}
+use Rattle.water.proofs.WaterLaws.{granted-is, draws-dealt, draw-most}
 use Rattle.update.specs.Step.{summed, summedDrawn, keepsSums, transportedFirst, stepOutlets, stepHeld, afterStep}
 use Rattle.update.proofs.StepLaws.{step-stands-again}
 use Rattle.stepping.proofs.StepCallLaws.{left-by-step}
@@ -80,9 +83,48 @@ share-of s i k l =
     let same : sumBelow k (λ j. getD (drawnFrom os i) j 0) ≡ sumBelow k one = sum-same k _ one (λ j q. drawn-at os i j (omega (arith, q, l))) in
     rw (same, drawn-at os i k l) (outlet-share-at (s .mass) (s .base) (s .carried) os _ _ i k l)
 
+-- dealt out by the wants
+module _ (s : Reach) (t i : ℕ) where
+  abbrev n : ℕ
+  n = s .held .outlets .count
+
+  abbrev ws : List ℕ
+  ws = wantsFrom (s .held .outlets) i
+
+  abbrev want : ℕ → ℕ
+  want k = cond (eqb (outletAt (s .held .outlets) k .cell) i) (outletAt (s .held .outlets) k .want) 0
+
+  abbrev whole : ℕ
+  whole = min (positive (available s t i)) (sum ws)
+
+  abbrev floor : ℕ → ℕ
+  floor j = whole * getD ws j 0 / sum ws
+
+  long : length ws ≡ n
+  unfolding fromCell
+  long = length-tabulate n want
+
+  floors-are : sum (floors whole (sum ws) ws) ≡ sumBelow n floor
+  unfolding fromCell
+  floors-are =
+      ap sum (floors-tabulate whole (sum ws) n want) ∙ sum-tabulate n (λ j. whole * want j / sum ws)
+      ∙ sum-same n _ floor (λ j l. ap (λ (w : ℕ). whole * w / sum ws) (sym (getD-tabulate n want j 0 l)))
+
+  each-of : (k : ℕ) → k < n → getD (draws s t i) k 0 ≡ floor k + cond (ltb 0 (getD ws k 0) && ltb (sumBelow k (λ j. cond (ltb 0 (getD ws j 0)) 1 0)) (whole - sumBelow n floor)) 1 0
+  unfolding granted weighingBelow unitsLeft
+  each-of k l =
+      ap (λ (ds : List ℕ). getD ds k 0) (draws-dealt s t i)
+      ∙ dealt-at whole ws k (omega (arith, l, long))
+      ∙ ap (λ (m : ℕ). floor k + cond (ltb 0 (getD ws k 0) && ltb (sumBelow k (λ j. cond (ltb 0 (getD ws j 0)) 1 0)) (whole - m)) 1 0) floors-are
+
 pub drawing : Drawing
-unfolding granted
+unfolding granted available cellSide fromCell drawOf summedDrawn
 drawing = record {
+  gives = λ s t i. refl;
+  wants = λ os i. refl;
+  each = λ s t i k l. each-of s t i k l;
+  from-own-cell = λ s t k. refl;
+  tested = λ s t i. refl;
   each-most = λ s t k l. draw-most s t k l;
   all-lesser = λ s t i. granted-is s t i;
   share = λ s i k l. share-of s i k l;

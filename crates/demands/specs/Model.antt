@@ -1,28 +1,29 @@
 -- Document 01, sentences that the definitions do not show as they stand: what holds of the amounts and of the calls that demand 2 names. (Names as in Demand1.antt.)
 use mathlib.Core.Path.{_≡_}
-use mathlib.Core.Bool.{true}
+use mathlib.Core.Bool.{true, cond, _&&_}
 use mathlib.Core.List.{List, [], _∷_}
 use Prim.Native.Nat.{ℕ, suc, _+_, _-_, _*_, _/_, _≤_, _<_, min}
 use contract.Lifetimes.{Lfts}
 use denote.Ref.{RefT}
-use lib.Dec.{leb}
+use lib.Dec.{leb, ltb, eqb}
 use lib.IntN.{ℤ, pos, _+ℤ_, _-ℤ_, negℤ, natAbs}
 use lib.ListN.{getD}
-use Rattle.numbers.specs.Index.{allOf, allBelow, sumBelow, sum}
+use Rattle.numbers.specs.Index.{allOf, allBelow, tabulate, sumBelow, sum}
 use Rattle.numbers.specs.Signed.{positive, eqℤ}
 use Rattle.outlet.specs.Outlets.{outletAt}
 use Rattle.outlet.specs.declared.Outlets.{Outlets}
 use Rattle.flux.specs.Wave.{waveSpeed}
+use Rattle.flux.specs.Velocity.{velocity}
 use Rattle.flux.specs.Crossing.{upper, lower, waterFlux, momentumFlux, stillThrust}
-use Rattle.reach.specs.Reach.{Reach, cells, depthAt, massAt, baseAt, carriedAt, leftBoundary, rightBoundary}
+use Rattle.reach.specs.Reach.{Reach, cells, depthAt, dischargeAt, massAt, baseAt, carriedAt, leftBoundary, rightBoundary}
 use Rattle.reach.specs.Parts.{drawnFrom}
 use Rattle.reach.specs.Grounds.{boundariesFit, outletsFit, carriedFits, ledgerFits, allTotalsFit, recordGrounds}
 use Rattle.reach.specs.declared.boundary.Boundary.{Boundary}
 use Rattle.reach.specs.declared.held.Held.{Held}
 use Rattle.mass.specs.Transport.{rightShare, leftShare, outletShare, rightwards, leftwards}
 use Rattle.transport.specs.Calls.{massColumnsOf, afterTransport}
-use Rattle.water.specs.Water.{netAt, available, wantsFrom, draws, drawOf, newDepth}
-use Rattle.update.specs.Step.{keepsSums, afterStep}
+use Rattle.water.specs.Water.{netAt, ownLeft, ownRight, available, wantsFrom, draws, drawOf, newDepth}
+use Rattle.update.specs.Step.{summedDrawn, keepsSums, afterStep}
 use Rattle.writing.specs.Writing.{noneDrawn}
 use Rattle.timestep.specs.GreatestStep.{placeSpeed}
 use Rattle.jemmyfern_c.specs.declared.answer.Answer.{Answer}
@@ -50,6 +51,21 @@ pub record Amounts : Type 0 where
 
 -- Document 02, point 1: what the outlets have
 pub record Drawing : Type 0 where
+  -- 'what a cell can give is its old depth less its own two outgoing W', over its right and over its left
+  pub gives : (s : Reach) (t i : ℕ) →
+      let u = velocity (depthAt s i) (dischargeAt s i) in
+      available s t i ≡ pos (depthAt s i) -ℤ pos (waterFlux t (s .cellLength) (ownRight s i) u) -ℤ pos (waterFlux t (s .cellLength) (ownLeft s i) (negℤ u))
+  -- what the outlets want of cell i
+  pub wants : (os : Outlets) (i : ℕ) → wantsFrom os i ≡ tabulate (os .count) (λ k. cond (eqb (outletAt os k .cell) i) (outletAt os k .want) 0)
+  -- 'each has floor(available times want / sum of wants), and the units left go singly, in list order, to those with a want above 0': of the lesser of what the cell can give and what
+  -- is wanted of it, so that 'if the wants fit, each has its want'
+  pub each : (s : Reach) (t i k : ℕ) → k < s .held .outlets .count →
+      let ws = wantsFrom (s .held .outlets) i in
+      let whole = min (positive (available s t i)) (sum ws) in
+      let floor : ℕ → ℕ = λ j. whole * getD ws j 0 / sum ws in
+      getD (draws s t i) k 0
+      ≡ floor k + cond (ltb 0 (getD ws k 0) && ltb (sumBelow k (λ j. cond (ltb 0 (getD ws j 0)) 1 0)) (whole - sumBelow (s .held .outlets .count) floor)) 1 0
+  pub from-own-cell : (s : Reach) (t k : ℕ) → drawOf s t k ≡ getD (draws s t (outletAt (s .held .outlets) k .cell)) k 0
   -- 'if the wants fit, each has its want': no outlet of a cell has more than it wants
   pub each-most : (s : Reach) (t k : ℕ) → k < s .held .outlets .count → drawOf s t k ≤ outletAt (s .held .outlets) k .want
   -- the draws of a cell add up to the lesser of what it can give and what is wanted of it
@@ -59,6 +75,10 @@ pub record Drawing : Type 0 where
       let D = positive (carriedAt s (i + 1)) + positive (negℤ (carriedAt s i)) + sumBelow k (λ j. getD (drawnFrom (s .held .outlets) i) j 0) in
       outletShare (massColumnsOf s) i k
       ≡ massAt s i * (D + getD (drawnFrom (s .held .outlets) i) k 0) / baseAt s i - massAt s i * D / baseAt s i
+  -- the transport test counts what each has drawn and draws now
+  pub tested : (s : Reach) (t i : ℕ) →
+      let os = s .held .outlets in
+      summedDrawn s t i ≡ tabulate (os .count) (λ k. cond (eqb (outletAt os k .cell) i) (outletAt os k .drawn + drawOf s t k) 0)
 
 -- with no outlet, every amount, test and list of grounds is document 01's
 pub record WithNoOutlet : Type 0 where

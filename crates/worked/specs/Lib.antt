@@ -4,4 +4,3 @@ pub mod Interface
 pub mod Cfl
 pub mod Sheets
 pub mod Grounds
-pub mod Outlets

@@ -1,4 +1,4 @@
-// Worked examples of document 01, and of document 02's outlets, that pin the model: each is chosen so that another reading of the paper gives another value. The values are those of the
+// Worked examples of document 01 that pin the model: each is chosen so that another reading of the paper gives another value. The values are those of the
 // second implementation, which asserts the same ones in tests/reference/tests/worked. A function without effect ensures each table, so that the gate proves it.
 ghost use Rattle.worked.specs.Flux.{FluxWorked};
 ghost use Rattle.worked.specs.Shares.{SharesWorked};
@@ -6,7 +6,6 @@ ghost use Rattle.worked.specs.Interface.{InterfaceWorked};
 ghost use Rattle.worked.specs.Cfl.{CflWorked};
 ghost use Rattle.worked.specs.Sheets.{SheetsWorked};
 ghost use Rattle.worked.specs.Grounds.{GroundsWorked};
-ghost use Rattle.worked.specs.Outlets.{OutletsWorked};
 
 pub fn flux_worked()
     ensures { λ _. ⌜ FluxWorked ⌝ }
@@ -30,8 +29,4 @@ pub fn sheets_worked()
 
 pub fn grounds_worked()
     ensures { λ _. ⌜ GroundsWorked ⌝ }
-{}
-
-pub fn outlets_worked()
-    ensures { λ _. ⌜ OutletsWorked ⌝ }
 {}

@@ -1,2 +1,4 @@
+pub mod Draws
+pub mod Outlets
 pub mod Steps
 pub mod Totals

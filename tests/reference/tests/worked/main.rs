@@ -2,6 +2,7 @@
 //! of the definitions come from here. Where a number can be found by hand, the comment there says how.
 
 mod cfl;
+mod draws;
 mod flux;
 mod grounds;
 mod interface;

@@ -1,11 +1,11 @@
--- `worked::outlets_worked` meets its contract: every value is computed from the definitions. Assumes nothing.
+-- `worked_runs::outlets_worked` meets its contract: every value is computed from the definitions. Assumes nothing.
 use mathlib.Core.Path.{refl}
 use Rattle.numbers.specs.Deal.{floors, unitsLeft, hasUnit, handed, dealt}
 use Rattle.numbers.specs.Index.{sum}
 use Rattle.numbers.specs.Shares.{share, shares, rest}
 use Rattle.reach.specs.Parts.{parts}
-use Rattle.worked.proofs.outlets_worked.Statement.{statement}
-use Rattle.worked.proofs.outlets_worked.Tie as tie
+use Rattle.worked_runs.proofs.outlets_worked.Statement.{statement}
+use Rattle.worked_runs.proofs.outlets_worked.Tie as tie
 
 returns : tie.Need-returns
 unfolding floors unitsLeft hasUnit handed dealt sum share shares rest parts

@@ -1,0 +1,46 @@
+-- `worked_runs::draws_worked` meets its contract: every value is computed from the definitions. Assumes nothing.
+use mathlib.Core.Path.{refl}
+use Rattle.outlet.specs.Outlets.{fromCell, eachOutlet}
+use Rattle.numbers.specs.Deal.{floors, unitsLeft, hasUnit, handed, dealt}
+use Rattle.numbers.specs.Index.{allOf, allBelow, tabulate, sum}
+use Rattle.numbers.specs.Root.{squareRoot}
+use Rattle.numbers.specs.Search.{climb}
+use Rattle.numbers.specs.Shares.{share, shares, rest}
+use Rattle.numbers.specs.Signed.{maxℤ, eqℤ}
+use Rattle.flux.specs.Crossing.{upper, lower, waterOf, waterFlux, secondMoment, momentumOf, momentumFlux, stillThrust}
+use Rattle.flux.specs.Interface.{reducedDepth, leftDepth, rightDepth, netWater, momentumSum, mirrored}
+use Rattle.flux.specs.Velocity.{velocity}
+use Rattle.flux.specs.Wave.{waveSpeed}
+use Rattle.cfl.specs.Cfl.{signalSpeed, speedAt, meetsCfl}
+use Rattle.mass.specs.Transport.{cellShares, rightwards, leftwards, movedCell, movedOutlet, movedOutlets}
+use Rattle.reach.specs.Parts.{parts, outflow}
+use Rattle.reach.specs.Grounds.{firstRefusal, lengthsFit, cellLengthFits, wallFits, openFits, fedFits, kindFits, boundaryFits, boundariesFit, cellFits, cellsFit, carriedFits, carriedCellsFit, shutFits, carriedFit, totalsFit, ledgerFits, outletFits, outletsFit, outletTotalsFit, allTotalsFit}
+use Rattle.transport.specs.Calls.{enteringLeft, enteringRight, withMass, ledgerWith, transportLedger, afterTransport, transportOutlets, transportHeld}
+use Rattle.water.specs.Sides.{sideSpeed, cellSide, boundarySide, leftSide, rightSide}
+use Rattle.water.specs.Water.{netAt, momentumAt, ownLeft, ownRight, newDepth, pushed, nearest, newDischarge, available, draws, drawOf, undrawnDepth}
+use Rattle.timestep.specs.GreatestStep.{boundarySpeed, leftSpeed, rightSpeed, placeSpeed}
+use Rattle.update.specs.Step.{summed, keepsSums, transportedFirst, withWater, withBoundaryWater, stepLedger, afterStep, timeFits, depthsFit, step, transports, summedDrawn, steppedOutlet, stepOutlets, stepHeld}
+use Rattle.worked_runs.proofs.draws_worked.Statement.{statement}
+use Rattle.worked_runs.proofs.draws_worked.Tie as tie
+
+returns : tie.Need-returns
+unfolding allOf allBelow tabulate sum squareRoot climb share shares rest maxℤ eqℤ upper lower waterOf waterFlux secondMoment momentumOf momentumFlux stillThrust reducedDepth leftDepth rightDepth netWater momentumSum mirrored velocity waveSpeed signalSpeed speedAt meetsCfl cellShares rightwards leftwards movedCell parts outflow firstRefusal lengthsFit cellLengthFits wallFits openFits fedFits kindFits boundaryFits boundariesFit cellFits cellsFit carriedFits carriedCellsFit shutFits carriedFit totalsFit ledgerFits enteringLeft enteringRight withMass ledgerWith transportLedger afterTransport sideSpeed cellSide boundarySide leftSide rightSide netAt momentumAt ownLeft ownRight newDepth pushed nearest newDischarge boundarySpeed leftSpeed rightSpeed placeSpeed summed keepsSums transportedFirst withWater withBoundaryWater stepLedger afterStep timeFits depthsFit step transports movedOutlet movedOutlets outletFits outletsFit outletTotalsFit allTotalsFit transportOutlets transportHeld available draws drawOf undrawnDepth summedDrawn steppedOutlet stepOutlets stepHeld fromCell eachOutlet floors unitsLeft hasUnit handed dealt
+returns c =
+    record {
+      can-give-0 = refl;
+      can-give-1 = refl;
+      beside-a-wall = refl;
+      draws-1 = refl;
+      kept = refl;
+      first = refl;
+      transported = refl;
+      second = refl;
+      kept-again = refl;
+      kept-list = refl;
+      not-kept = refl;
+      total-met = refl;
+      total-passed = refl;
+    }
+
+pub draws-worked-spec : {M : Type 1} → statement M
+draws-worked-spec = tie.close (tie.spec returns)
