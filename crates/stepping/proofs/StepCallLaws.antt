@@ -54,10 +54,10 @@ use Rattle.water.specs.Ranges.{fluxMost, flowOf, FlowFits, sideMeets, sidesMeet
 use Rattle.water.proofs.WaterLaws.{right-side-cell, right-side-end, net-small, granted-is, depth-is, discharge-is, draws-dealt, draw-most}
 use Rattle.timestep.specs.GreatestStep.{boundarySpeed, leftSpeed, rightSpeed, placeSpeed}
 use Rattle.stepping.specs.declared.step.StepAnswer.{StepAnswer}
-use Rattle.update.proofs.StepLaws.{by-step, transported-count, summed-drawn, drawn-depth, water-fits as outlet-water-fits, each-totals}
+use Rattle.update.proofs.StepLaws.{by-step, transported-count, summed-drawn, drawn-depth, water-fits as outlet-water-fits, each-totals, kept-by-depth}
 use Rattle.update.specs.Step.{summed, summedDrawn, keepsSums, transportedFirst, withBoundaryWater, stepLedger, steppedOutlet, stepOutlets, stepHeld, afterStep, timeFits, depthsFit, stepGrounds, step, transports}
 use Rattle.stepping.specs.StepCall.{stoppedBy, StepCameTo}
-use Rattle.stepping.specs.Ranges.{Summable, Drawable, sumsKept, BoundaryMassWhen, outletWith, withDraws, Room, StepFound}
+use Rattle.stepping.specs.Ranges.{Summable, sumsKept, BoundaryMassWhen, outletWith, withDraws, Room, StepFound}
 
 -- ---- what a sound record owes the sweep
 
@@ -268,42 +268,24 @@ module _ (s : Reach) (k : Sound s) (t : ℕ) where
           ∙ ap (λ (g : ℕ). getD (dealt g (wantsFrom os i)) n 0) (w .grants i j ∙ ap (λ (n : ℕ). granted s t n i) (wanted-at i (of-wants i j)))
           ∙ ap (λ (ds : List ℕ). getD ds n 0) (sym (draws-dealt s t i))
 
-  module _ (cfl : meetsCfl (placeSpeed s) (cells s + 1) (s .cellLength) t ≡ true) (net : List ℤ) (given depth : List ℕ) (discharge : List ℤ) (got : List ℕ) (w : StepFound s t net given depth discharge got) where
-    module _ (drawn : List ℕ) (e : drawn ≡ tabulate cellsMost (cutDrawn os)) where
-      drawn-is : (i : ℕ) → i < cells s → getD drawn i 0 ≡ sum (drawnFrom os i)
-      drawn-is i l = drawn-at s k drawn e i l
-
-      pub sums-are : sumsKept (s .base) (s .carried) net drawn given ≡ keepsSums s t
-      unfolding sumsKept keepsSums summed
-      sums-are =
-          rw (k .bases)
-          (all-same _ _ (cells s) (λ i l.
-          rw (w .nets i (omega arith), w .nets (i + 1) (omega arith), add-one i)
-          (ap (λ (o : ℕ). leb o (baseAt s i)) (same-sums (carriedAt s i +ℤ netAt s t i) (carriedAt s (suc i) +ℤ netAt s t (suc i)) i l))))
-        where
-          same-sums : (x y : ℤ) (i : ℕ) → i < cells s → outflow x y ((getD drawn i 0 + getD given i 0) ∷ []) ≡ outflow x y (summedDrawn s t i)
-          same-sums x y i l =
-              let d = getD drawn i 0 + getD given i 0 in
-              omega (arith, outflow-is x y (d ∷ []), sum-single d, outflow-is x y (summedDrawn s t i), drawn-is i l, w .grants i l, summed-drawn s k t cfl i)
-
-      pub drawable : Drawable (length (s .base)) drawn given
-      drawable = record {
-        drawn-long = omega (arith, k .bases, k .few, ap length e ∙ length-tabulate cellsMost (cutDrawn os));
-        given-long = omega (arith, k .bases, w .given-long);
-        drawn-most = λ i l. let j : i < cells s = omega (arith, l, k .bases) in rw (drawn-is i j) (omega (arith, k .water i j .covered, outflow-is (carriedAt s i) (carriedAt s (i + 1)) (drawnFrom os i), k .cell i j .base));
-        given-most = λ i l. let j : i < cells s = omega (arith, l, k .bases) in rw (w .grants i j) (omega (arith, drawn-depth s k t cfl i j, k .cell i j .depth));
-      }
+  module _ (cfl : meetsCfl (placeSpeed s) (cells s + 1) (s .cellLength) t ≡ true) (net : List ℤ) (depth : List ℕ) (discharge : List ℤ) (got : List ℕ) (w : StepFound s t net depth discharge got) where
+    -- the transport test
+    pub sums-are : sumsKept (cells s) (s .carried) net depth ≡ keepsSums s t
+    unfolding sumsKept keepsSums summed
+    sums-are =
+        all-same _ _ (cells s) (λ i l.
+        rw (w .nets i (omega arith), w .nets (i + 1) (omega arith), w .depths i l, add-one i) (kept-by-depth s k t cfl i l))
 
     pub net-at : Mesh t (s .cellLength) → (i : ℕ) → i ≤ cells s → natAbs (getD net i (pos 0)) ≤ fluxMost
     net-at g i l = rw (w .nets i l) (net-small s (flow-fits s k) t i g l)
 
-    pub summable : Mesh t (s .cellLength) → Summable (length (s .base)) (s .carried) net
+    pub summable : Mesh t (s .cellLength) → Summable (cells s) (s .carried) net
     summable g = record {
-      few = omega (arith, k .few, k .bases);
-      interfaces = omega (arith, k .interfaces, k .bases);
-      long = omega (arith, w .net-long, k .bases);
-      carried = λ i l. let b = carried-small s k i (omega (arith, k .bases)) in omega arith;
-      crossed = λ i l. let b = net-at g i (omega (arith, k .bases)) in omega arith;
+      few = omega (arith, k .few);
+      interfaces = k .interfaces;
+      long = w .net-long;
+      carried = λ i l. let b = carried-small s k i (omega arith) in omega arith;
+      crossed = λ i l. let b = net-at g i l in omega arith;
     }
 
     -- ---- what is written is what the record after the step holds

@@ -4,7 +4,7 @@ use mathlib.Core.Bool.{Bool, true, false}
 use mathlib.Core.List.{List, [], _∷_}
 use Prim.Native.Nat.{ℕ, _+_, _≤_, _<_}
 use lib.Dec.{leb}
-use lib.IntN.{ℤ, pos, _+ℤ_, natAbs}
+use lib.IntN.{ℤ, pos, _+ℤ_, negℤ, natAbs}
 use lib.ListN.{length, getD}
 use Rattle.numbers.specs.Index.{allBelow, sum}
 use Rattle.numbers.specs.Signed.{positive}
@@ -31,18 +31,10 @@ pub record Summable (n : ℕ) (c net : List ℤ) : Type 0 where
   pub carried : (i : ℕ) → i ≤ n → natAbs (getD c i (pos 0)) ≤ 1_000_000_000
   pub crossed : (i : ℕ) → i ≤ n → natAbs (getD net i (pos 0)) ≤ 1_000_000_000
 
--- what is drawn of each cell, before and in the step, far below what 64 bits hold
-pub record Drawable (n : ℕ) (drawn given : List ℕ) : Type 0 where
-  pub drawn-long : n ≤ length drawn
-  pub given-long : n ≤ length given
-  pub drawn-most : (i : ℕ) → i < n → getD drawn i 0 ≤ 1_000_000_000
-  pub given-most : (i : ℕ) → i < n → getD given i 0 ≤ 1_000_000_000
-
--- the transport test, of base depths b, carried water c, the amounts N, and what is drawn of each cell before and in the step
-unfoldable pub sumsKept : (b : List ℕ) (c net : List ℤ) (drawn given : List ℕ) → Bool
-sumsKept b c net drawn given =
-    allBelow (length b) (λ i.
-    leb (outflow (getD c i (pos 0) +ℤ getD net i (pos 0)) (getD c (i + 1) (pos 0) +ℤ getD net (i + 1) (pos 0)) ((getD drawn i 0 + getD given i 0) ∷ [])) (getD b i 0))
+-- the transport test of n cells by new depths h, of carried water c and the amounts N: what came in over both sides is covered by what stands there now
+unfoldable pub sumsKept : (n : ℕ) (c net : List ℤ) (h : List ℕ) → Bool
+sumsKept n c net h =
+    allBelow n (λ i. leb (positive (getD c i (pos 0) +ℤ getD net i (pos 0)) + positive (negℤ (getD c (i + 1) (pos 0) +ℤ getD net (i + 1) (pos 0)))) (getD h i 0))
 
 -- the mass that crosses both boundaries where the step transports, and none where it does not
 pub record BoundaryMassWhen (transports : Bool) (s : MassColumns) (leftIn leftOut rightIn rightOut : ℕ) : Type 0 where
@@ -65,14 +57,12 @@ pub record Room (os : Outlets) (got : List ℕ) : Type 0 where
   pub drawn-most : (k : ℕ) → k < os .count → outletAt os k .drawn ≤ depthMost
   pub water-most : (k : ℕ) → k < os .count → outletAt os k .water ≤ totalMost
 
--- what was found of a step of t on the record s: N, what each cell gives, depth and discharge of each cell, what each outlet has
-pub record StepFound (s : Reach) (t : ℕ) (net : List ℤ) (given depth : List ℕ) (discharge : List ℤ) (got : List ℕ) : Type 0 where
+-- what was found of a step of t on the record s: N, depth and discharge of each cell, what each outlet has
+pub record StepFound (s : Reach) (t : ℕ) (net : List ℤ) (depth : List ℕ) (discharge : List ℤ) (got : List ℕ) : Type 0 where
   pub net-long : cells s < length net
-  pub given-long : cells s ≤ length given
   pub depth-long : cells s ≤ length depth
   pub discharge-long : cells s ≤ length discharge
   pub nets : (i : ℕ) → i ≤ cells s → getD net i (pos 0) ≡ netAt s t i
-  pub grants : (i : ℕ) → i < cells s → getD given i 0 ≡ sum (draws s t i)
   pub depths : (i : ℕ) → i < cells s → getD depth i 0 ≡ positive (newDepth s t i)
   pub discharges : (i : ℕ) → i < cells s → getD discharge i (pos 0) ≡ newDischarge s t i
   pub gots : (k : ℕ) → k < s .held .outlets .count → getD got k 0 ≡ drawOf s t k

@@ -174,19 +174,18 @@ fn complete(
     t: u64,
     drawn: &[u64],
     net: &[i64],
-    given: &[u64],
     new_depth: &[u64],
     new_discharge: &[i64],
     got: [u64; 32],
 ) -> StepAnswer
     requires { ⌜ firstRefusal (recordGrounds (reachOf (now bed) (now depth) (now discharge) (now mass) (now base) (now carried) x held) (held .boundaries)) ≡ Pass ⌝ }
     requires { ⌜ StepPasses (reachOf (now bed) (now depth) (now discharge) (now mass) (now base) (now carried) x held) t ⌝ }
-    requires { ⌜ StepFound (reachOf (now bed) (now depth) (now discharge) (now mass) (now base) (now carried) x held) t (now net) (now given) (now «new_depth») (now «new_discharge») got ⌝ }
+    requires { ⌜ StepFound (reachOf (now bed) (now depth) (now discharge) (now mass) (now base) (now carried) x held) t (now net) (now «new_depth») (now «new_discharge») got ⌝ }
     requires { ⌜ now drawn ≡ tabulate cellsMost (cutDrawn (held .outlets)) ⌝ }
     ensures { λ r. ⌜ StepCameTo (came bed depth discharge mass base carried x held) t r (now (depth .exit)) (now (discharge .exit)) (now (mass .exit)) (now (base .exit)) (now (carried .exit)) ⌝ }
 {
     let n = bed.len();
-    let transports = !keeps_sums(base, carried, net, drawn, given);
+    let transports = !keeps_sums(n, carried, net, new_depth);
     let booked = book(
         transports,
         mass,
@@ -277,7 +276,6 @@ fn advance(
         t,
         drawn,
         &net,
-        &given,
         &new_depth,
         &new_discharge,
         got,

@@ -1,17 +1,17 @@
 // The transport test of a step, and the transport inside it.
 ghost use mathlib.Core.Path.{_≡_};
 ghost use mathlib.Core.Bool.{true, false, cond};
-ghost use mathlib.Core.List.{[], _∷_};
-ghost use Prim.Native.Nat.{ℕ, _+_, _≤_, _<_};
+ghost use Prim.Native.Nat.{_+_, _≤_};
 ghost use lib.Dec.{leb};
-ghost use lib.IntN.{pos, _+ℤ_, natAbs};
-ghost use lib.ListN.{length, getD, replicate};
-ghost use Rattle.reach.specs.Parts.{outflow, drawnFrom};
+ghost use lib.IntN.{pos, negℤ, natAbs};
+ghost use lib.ListN.{length, replicate};
+ghost use Rattle.numbers.specs.Signed.{positive};
+ghost use Rattle.reach.specs.Parts.{drawnFrom};
 ghost use Rattle.reach.specs.Ranges.{alone};
 ghost use Rattle.mass.specs.Transport.{massColumns, movedOutlets};
 ghost use Rattle.mass.specs.Ranges.{Ready, OutletsReady, movedMass};
 ghost use Rattle.transport.specs.Ranges.{massColumnsWith};
-ghost use Rattle.stepping.specs.Ranges.{Summable, Drawable, sumsKept, BoundaryMassWhen};
+ghost use Rattle.stepping.specs.Ranges.{Summable, sumsKept, BoundaryMassWhen};
 use mass::outlets::move_outlets;
 use numbers::signed::left_part;
 use numbers::signed::right_part;
@@ -22,27 +22,26 @@ use transport::BoundaryMass;
 use transport::boundary_mass_of;
 use transport::commit;
 
-// What left a cell of base depth b, over its right, over its left and by its outlets, is covered by it.
-fn covers(b: u64, left: i64, right: i64, drawn: u64) -> bool
-    requires { ⌜ (natAbs left ≤ 2_000_000_000) × ((natAbs right ≤ 2_000_000_000) × (drawn ≤ 2_000_000_000)) ⌝ }
-    ensures { λ r. ⌜ r ≡ leb (outflow left right (drawn ∷ [])) b ⌝ }
+// What came into a cell of depth h, over its left and over its right, is covered by it.
+fn covers(h: u64, left: i64, right: i64) -> bool
+    requires { ⌜ (natAbs left ≤ 2_000_000_000) × (natAbs right ≤ 2_000_000_000) ⌝ }
+    ensures { λ r. ⌜ r ≡ leb (positive left + positive (negℤ right)) h ⌝ }
 {
-    right_part(right) + left_part(left) + drawn <= b
+    right_part(left) + left_part(right) <= h
 }
 
-// Whether every cell covers the carried water with N added, and what was drawn of it with what it gives now
-pub fn keeps_sums(base: &[u64], carried: &[i64], net: &[i64], drawn: &[u64], given: &[u64]) -> bool
-    requires { ⌜ Summable (length (now base)) (now carried) (now net) × Drawable (length (now base)) (now drawn) (now given) ⌝ }
-    ensures { λ r. ⌜ r ≡ sumsKept (now (base .entry)) (now (carried .entry)) (now (net .entry)) (now (drawn .entry)) (now (given .entry)) ⌝ }
+// Whether every cell's base depth covers what left it, with N and what it gives now, over both sides and by its outlets. Base depth and inflow are depth and
+// outflow, so that is told by the new depths, whatever was drawn: each covers what came in (`kept-by-depth`).
+pub fn keeps_sums(n: usize, carried: &[i64], net: &[i64], new_depth: &[u64]) -> bool
+    requires { ⌜ Summable n (now carried) (now net) × (n ≤ length (now «new_depth»)) ⌝ }
+    ensures { λ r. ⌜ r ≡ sumsKept n (now (carried .entry)) (now (net .entry)) (now («new_depth» .entry)) ⌝ }
 {
-    let n = base.len();
     let mut i = 0;
     while i < n {
         if !covers(
-            base[i],
+            new_depth[i],
             sum_of(carried[i], net[i]),
             sum_of(carried[i + 1], net[i + 1]),
-            drawn[i] + given[i],
         ) {
             return false;
         }

@@ -7,7 +7,7 @@ use Prim.Native.Nat.{ℕ, zero, suc, _+_, _-_, _*_, _≤_, _<_}
 use native.Mathlib.Nat.{zero-add}
 use native.Mathlib.Numerals.{add-one}
 use native.Mathlib.Omega.{arith}
-use borrow.Author.Tests.{leb-true, le-leb, lt-ltb}
+use borrow.Author.Tests.{leb-true, leb-false, le-leb, lt-leb, lt-ltb}
 use lib.Dec.{leb, eqb}
 use lib.IntN.{ℤ, pos, _+ℤ_, _-ℤ_, negℤ, subℕ, natAbs, +ℤ-idl}
 use lib.Signed.{leZ}
@@ -51,10 +51,9 @@ use Rattle.update.specs.Step.{summed, summedDrawn, keepsSums, transporte
 
 -- ---- carried water that N is added to, over plain values
 
-carried-moved : (h b A B C D G h' : ℕ) (c d N M : ℤ) (ds es : List ℕ) → N ≡ subℕ A B → M ≡ subℕ C D → B + C + G ≤ h → h' ≡ h + A + D - (B + C + G) → sum es ≡ sum ds + G
-    → h + outflow c d ds ≡ b + R c + L d → outflow (c +ℤ N) (d +ℤ M) es ≤ b → b ≤ depthMost → h' ≤ depthMost
-    → CarriedSound h' b (c +ℤ N) (d +ℤ M) es
-carried-moved h b A B C D G h' c d N M ds es eN eM out eh drawn old cov deep deep' =
+moved-balance : (h b A B C D G h' : ℕ) (c d N M : ℤ) (ds es : List ℕ) → N ≡ subℕ A B → M ≡ subℕ C D → B + C + G ≤ h → h' ≡ h + A + D - (B + C + G) → sum es ≡ sum ds + G
+    → h + outflow c d ds ≡ b + R c + L d → h' + outflow (c +ℤ N) (d +ℤ M) es ≡ b + R (c +ℤ N) + L (d +ℤ M)
+moved-balance h b A B C D G h' c d N M ds es eN eM out eh drawn old =
     let rN = ap R eN ∙ right-sub A B in
     let lN = ap L eN ∙ left-sub A B in
     let rM = ap R eM ∙ right-sub C D in
@@ -63,13 +62,28 @@ carried-moved h b A B C D G h' c d N M ds es eN eM out eh drawn old cov deep dee
     let q = add-cross d M in
     let u = outflow-is c d ds in
     let v = outflow-is (c +ℤ N) (d +ℤ M) es in
-    let balanced : h' + outflow (c +ℤ N) (d +ℤ M) es ≡ b + R (c +ℤ N) + L (d +ℤ M) = omega arith in
+    omega arith
+
+carried-moved : (h b A B C D G h' : ℕ) (c d N M : ℤ) (ds es : List ℕ) → N ≡ subℕ A B → M ≡ subℕ C D → B + C + G ≤ h → h' ≡ h + A + D - (B + C + G) → sum es ≡ sum ds + G
+    → h + outflow c d ds ≡ b + R c + L d → outflow (c +ℤ N) (d +ℤ M) es ≤ b → b ≤ depthMost → h' ≤ depthMost
+    → CarriedSound h' b (c +ℤ N) (d +ℤ M) es
+carried-moved h b A B C D G h' c d N M ds es eN eM out eh drawn old cov deep deep' =
+    let v = outflow-is (c +ℤ N) (d +ℤ M) es in
+    let balanced = moved-balance h b A B C D G h' c d N M ds es eN eM out eh drawn old in
     record {
       left = ⊎-elim (λ z. omega (arith, abs-parts (c +ℤ N))) (λ z. omega (arith, abs-parts (c +ℤ N))) (one-part (c +ℤ N));
       right = ⊎-elim (λ z. omega (arith, abs-parts (d +ℤ M))) (λ z. omega (arith, abs-parts (d +ℤ M))) (one-part (d +ℤ M));
       balance = balanced;
       covered = cov;
     }
+
+-- of two sides of a balance, one is covered where the other is
+same-test : (h o b x y : ℕ) → h + o ≡ b + x + y → leb (x + y) h ≡ leb o b
+same-test h o b x y e = go (leb o b) refl
+  where
+    go : (t : Bool) → leb o b ≡ t → leb (x + y) h ≡ leb o b
+    go true q = le-leb (x + y) h (omega (arith, leb-true o b q)) ∙ sym q
+    go false q = lt-leb (x + y) h (omega (arith, leb-false o b q)) ∙ sym q
 
 -- ---- ledgers
 
@@ -281,6 +295,16 @@ module _ (s : Reach) (k : Sound s) (t : ℕ) (cfl : meetsCfl (placeSpeed s) (cel
       ∙ sum-same (os .count) _ _ (λ n l. both (here n) (outletAt os n .drawn) (drawOf s t n))
       ∙ sum-add (os .count) (λ n. cond (here n) (outletAt os n .drawn) 0) (λ n. cond (here n) (drawOf s t n) 0)
       ∙ ap₂ (λ (x y : ℕ). x + y) (sym (sum-tabulate (os .count) (λ n. cond (here n) (outletAt os n .drawn) 0))) (sym (draws-sum s t i))
+
+  -- what left a cell is covered by its base depth where what came in is by its new depth: the transport test in other words
+  pub kept-by-depth : (i : ℕ) → i < cells s
+      → leb (R (summed s t i) + L (summed s t (suc i))) (positive (newDepth s t i)) ≡ leb (outflow (summed s t i) (summed s t (suc i)) (summedDrawn s t i)) (baseAt s i)
+  unfolding summed
+  kept-by-depth i l =
+      same-test (positive (newDepth s t i)) _ (baseAt s i) _ _
+      (moved-balance (depthAt s i) (baseAt s i) (rightward s t i) (leftward s t i) (rightward s t (suc i)) (leftward s t (suc i)) (sum (draws s t i)) (positive (newDepth s t i))
+      (carriedAt s i) (carriedAt s (suc i)) (netAt s t i) (netAt s t (suc i)) (drawnFrom os i) (summedDrawn s t i)
+      (net-is s t i) (net-is s t (suc i)) (drawn-at i l) (depth-at i l) (summed-drawn i) (rw (add-one i) at (k .water i l .balance)))
 
   moved-count : afterTransport s .held .outlets .count ≡ os .count
   unfolding afterTransport transportHeld transportOutlets movedOutlets

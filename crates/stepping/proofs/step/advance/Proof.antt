@@ -28,7 +28,7 @@ use Rattle.timestep.specs.GreatestStep.{placeSpeed}
 use Rattle.update.specs.Step.{depthsFit}
 use Rattle.stepping.specs.StepCall.{stoppedBy, StepCameTo}
 use Rattle.stepping.specs.declared.step.StepAnswer.{StepAnswer}
-use Rattle.stepping.proofs.StepCallLaws.{mesh, water-fits, met-is, depths-are, wanted-long, grant-of, depth-of, discharge-of, grants, got-of, stopped-11, stopped-12, stayed}
+use Rattle.stepping.proofs.StepCallLaws.{mesh, water-fits, met-is, depths-are, wanted-long, depth-of, discharge-of, grants, got-of, stopped-11, stopped-12, stayed}
 use Rattle.stepping.proofs.step.advance.Statement.{statement}
 use Rattle.stepping.proofs.step.advance.Tie as tie
 
@@ -209,17 +209,14 @@ slice-aggregate-complete : tie.Need-slice-aggregate-complete
 slice-aggregate-complete c = sym (net-length (over (c .before .before .before .before .before .before .before .before)))
 
 slice-aggregate-complete-2 : tie.Need-slice-aggregate-complete-2
-slice-aggregate-complete-2 c = sym (given-length (over (c .before .before .before .before .before .before .before .before .before)))
+slice-aggregate-complete-2 c = sym (depth-length (over (c .before .before .before .before .before .before .before .before .before)))
 
 slice-aggregate-complete-3 : tie.Need-slice-aggregate-complete-3
-slice-aggregate-complete-3 c = sym (depth-length (over (c .before .before .before .before .before .before .before .before .before .before)))
-
-slice-aggregate-complete-4 : tie.Need-slice-aggregate-complete-4
-slice-aggregate-complete-4 c = sym (discharge-length (over (c .before .before .before .before .before .before .before .before .before .before .before)))
+slice-aggregate-complete-3 c = sym (discharge-length (over (c .before .before .before .before .before .before .before .before .before .before)))
 
 complete-requires : tie.Need-complete-requires
 complete-requires c κs =
-    let m = c .before .before .before .before .before .before .before .before .before .before .before in
+    let m = c .before .before .before .before .before .before .before .before .before .before in
     let w = over m in
     let s = entry w in
     let k = whole s in
@@ -232,14 +229,12 @@ complete-requires c κs =
         (
           record {
             net-long = omega (arith, net-length w, k .few);
-            given-long = omega (arith, given-length w, k .few);
             depth-long = omega (arith, depth-length w, k .few);
             discharge-long = omega (arith, discharge-length w, k .few);
             nets = swept w .nets;
-            grants = grant-of r k t (wants w) (wanted w) (net w) (given w) (depth w) (discharge w) (swept w);
             depths = depths-found w;
             discharges = discharge-of r k t (wants w) (wanted w) (net w) (given w) (depth w) (discharge w) (swept w);
-            gots = got-of r k t (wants w) (wanted w) (net w) (given w) (depth w) (discharge w) (swept w) _ (c .before .before .before .before .before .before .before .before .before .deal-out .ensures);
+            gots = got-of r k t (wants w) (wanted w) (net w) (given w) (depth w) (discharge w) (swept w) _ (c .before .before .before .before .before .before .before .before .deal-out .ensures);
           },
           s .pre .1 .1,
         ),
@@ -294,7 +289,6 @@ advance-spec =
     slice-aggregate-complete
     slice-aggregate-complete-2
     slice-aggregate-complete-3
-    slice-aggregate-complete-4
     complete-requires
     same-length-5
     same-length-6

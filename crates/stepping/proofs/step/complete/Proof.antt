@@ -25,7 +25,7 @@ use Rattle.update.proofs.StepLaws.{step-count}
 use Rattle.stepping.specs.StepCall.{stoppedBy, StepCameTo}
 use Rattle.stepping.specs.Ranges.{BoundaryMassWhen, StepFound}
 use Rattle.stepping.specs.declared.step.StepAnswer.{StepAnswer}
-use Rattle.stepping.proofs.StepCallLaws.{mesh, sums-are, drawable, net-at, summable, depth-written, discharge-written, carried-written, addable, room, room-when, small-when, ready-when, held-after, mass-when, base-when, carried-when, stopped-13, stepped-on, stayed, came-out}
+use Rattle.stepping.proofs.StepCallLaws.{mesh, sums-are, net-at, summable, depth-written, discharge-written, carried-written, addable, room, room-when, small-when, ready-when, held-after, mass-when, base-when, carried-when, stopped-13, stepped-on, stayed, came-out}
 use Rattle.stepping.proofs.step.complete.Statement.{statement}
 use Rattle.stepping.proofs.step.complete.Tie as tie
 
@@ -39,7 +39,7 @@ whole s = sound (reach s) (s .args .held .boundaries) (s .pre .0)
 fine : (s : tie.Start) → Mesh (s .args .t) (s .args .x)
 fine s = mesh (reach s) (whole s) (s .args .t) (s .pre .1 .0 .time)
 
-found : (s : tie.Start) → StepFound (reach s) (s .args .t) (now (s .args .net)) (now (s .args .given)) (now (s .args .new-depth)) (now (s .args .new-discharge)) (s .args .got)
+found : (s : tie.Start) → StepFound (reach s) (s .args .t) (now (s .args .net)) (now (s .args .new-depth)) (now (s .args .new-discharge)) (s .args .got)
 found s = s .pre .1 .1 .0
 
 drawn : (s : tie.Start) → now (s .args .drawn) ≡ tabulate cellsMost (cutDrawn (s .args .held .outlets))
@@ -47,8 +47,8 @@ drawn s = s .pre .1 .1 .1
 
 -- ---- from place to place
 
-abbrev entry : tie.After-keeps-sums-arg2 → tie.Start
-entry c = c .before .before .before .before .before .before .before .before
+abbrev entry : tie.After-keeps-sums-arg → tie.Start
+entry c = c .before .before .before .before .before .before
 
 -- from what is booked to the transport test
 abbrev kept : tie.After-book → tie.After-keeps-sums
@@ -61,7 +61,7 @@ start c = entry (kept c .before)
 transporting : (c : tie.After-keeps-sums) → not (c .keeps-sums .result) ≡ not (keepsSums (reach (entry (c .before))) (entry (c .before) .args .t))
 transporting c =
     let s = entry (c .before) in
-    ap not (c .keeps-sums .ensures ∙ sums-are (reach s) (whole s) (s .args .t) (s .pre .1 .0 .cfl) _ _ _ _ _ (found s) _ (drawn s))
+    ap not (c .keeps-sums .ensures ∙ sums-are (reach s) (whole s) (s .args .t) (s .pre .1 .0 .cfl) _ _ _ _ (found s))
 
 -- what is held after the step
 booked : (c : tie.After-book) → c .book .result .held ≡ stepHeld (reach (start c)) (start c .args .t)
@@ -69,14 +69,14 @@ booked c =
     let s = start c in
     let e = rw (toZ-ofZ (sfits-of (c .before .before .book-arg4 .given)), toZ-ofZ (sfits-of (c .before .book-arg5 .given))) at (c .book .ensures .1) in
     e
-    ∙ held-after (reach s) (whole s) (s .args .t) (s .pre .1 .0 .cfl) _ _ _ _ _ (found s) _ (transporting (kept c)) _ (drawn s) _ _ _ _ (c .book .ensures .0) _ _
+    ∙ held-after (reach s) (whole s) (s .args .t) (s .pre .1 .0 .cfl) _ _ _ _ (found s) _ (transporting (kept c)) _ (drawn s) _ _ _ _ (c .book .ensures .0) _ _
     (found s .nets 0 (omega arith)) (found s .nets (cells (reach s)) (omega arith))
 
 keeps-sums-requires : tie.Need-keeps-sums-requires
 keeps-sums-requires c κs =
     let s = entry c in
     let k = whole s in
-    (summable (reach s) k (s .args .t) (s .pre .1 .0 .cfl) _ _ _ _ _ (found s) (fine s), drawable (reach s) k (s .args .t) (s .pre .1 .0 .cfl) _ _ _ _ _ (found s) _ (drawn s))
+    (summable (reach s) k (s .args .t) (s .pre .1 .0 .cfl) _ _ _ _ (found s) (fine s), found s .depth-long)
 
 shared-slice-copy-out-book : tie.Need-shared-slice-copy-out-book
 shared-slice-copy-out-book c = let s = entry (c .before .before .before .before) in omega (arith, found s .net-long)
@@ -95,15 +95,15 @@ book-requires c κs =
     let t = s .args .t in
     let cfl = s .pre .1 .0 .cfl in
     let e = transporting (c .before .before .before .before .before) in
-    let at = net-at r k t cfl _ _ _ _ _ (found s) (fine s) in
+    let at = net-at r k t cfl _ _ _ _ (found s) (fine s) in
     rw (toZ-ofZ (sfits-of (c .before .book-arg4 .given)), toZ-ofZ (sfits-of (c .book-arg5 .given))) (
       ready-with r k _ (drawn s),
       (
         ((omega (arith, k .some, k .masses), drawn-long r k _ (drawn s)), outlets-ready r k),
         (
-          (λ a b c o y. small-when r k t cfl _ _ _ _ _ (found s) _ e _ (drawn s) a b c o y),
+          (λ a b c o y. small-when r k t cfl _ _ _ _ (found s) _ e _ (drawn s) a b c o y),
           (
-            (room r k t cfl _ _ _ _ _ (found s), room-when r k t cfl _ _ _ _ _ (found s) _ e),
+            (room r k t cfl _ _ _ _ (found s), room-when r k t cfl _ _ _ _ (found s) _ e),
             (ledger-fits _ (k .totals), (at 0 (omega arith), at (cells r) (omega arith))),
           ),
         ),
@@ -150,7 +150,7 @@ transport-when-requires c κs =
     let s = start b in
     let k = whole s in
     let d = drawn s in (
-      ready-when (reach s) k (s .args .t) (s .pre .1 .0 .cfl) _ _ _ _ _ (found s) _ (transporting (kept b)) _ d _ _ _ _ (b .book .ensures .0),
+      ready-when (reach s) k (s .args .t) (s .pre .1 .0 .cfl) _ _ _ _ (found s) _ (transporting (kept b)) _ d _ _ _ _ (b .book .ensures .0),
       (k .bases ∙ sym (k .depths), drawn-long (reach s) k _ d),
     )
 
@@ -164,7 +164,7 @@ told c = c .before .before .before .before .before .before .before .before .befo
 carried-transported : (c : tie.After-transport-when) → carried c ≡ transportedFirst (reach (start (told c))) (start (told c) .args .t) .carried
 carried-transported c =
     let s = start (told c) in
-    c .transport-when .ensures .1 .1 ∙ carried-when (reach s) (whole s) (s .args .t) (s .pre .1 .0 .cfl) _ _ _ _ _ (found s) _ (transporting (kept (told c)))
+    c .transport-when .ensures .1 .1 ∙ carried-when (reach s) (whole s) (s .args .t) (s .pre .1 .0 .cfl) _ _ _ _ (found s) _ (transporting (kept (told c)))
 
 write-step-requires : tie.Need-write-step-requires
 write-step-requires c κs =
@@ -176,7 +176,7 @@ write-step-requires c κs =
         omega (arith, w .depth-long, k .depths),
         (omega (arith, w .discharge-long, k .discharges), omega (arith, w .net-long, k .interfaces, m .transport-when .kept .1 .1 .1 .1 .0)),
       ),
-      addable (reach s) k (s .args .t) (s .pre .1 .0 .cfl) _ _ _ _ _ w (carried m) (carried-transported m) (fine s),
+      addable (reach s) k (s .args .t) (s .pre .1 .0 .cfl) _ _ _ _ w (carried m) (carried-transported m) (fine s),
     )
 
 same-length-4 : tie.Need-same-length-4
@@ -213,11 +213,11 @@ returns-2 c =
     (stepped-on r t (s .pre .0) (p .time) (p .cfl) (p .deep) fits)
     (booked b)
     e
-    (wrote .0 ∙ depth-written r k t (p .cfl) _ _ _ _ _ w)
-    (wrote .1 .0 ∙ discharge-written r k t (p .cfl) _ _ _ _ _ w)
-    (moved .0 ∙ mass-when r k t (p .cfl) _ _ _ _ _ w _ e _ (drawn s) _ _ _ _ (b .book .ensures .0))
-    (moved .1 .0 ∙ base-when r k t (p .cfl) _ _ _ _ _ w _ e)
-    (wrote .1 .1 ∙ carried-written r k t (p .cfl) _ _ _ _ _ w (carried m) (carried-transported m))
+    (wrote .0 ∙ depth-written r k t (p .cfl) _ _ _ _ w)
+    (wrote .1 .0 ∙ discharge-written r k t (p .cfl) _ _ _ _ w)
+    (moved .0 ∙ mass-when r k t (p .cfl) _ _ _ _ w _ e _ (drawn s) _ _ _ _ (b .book .ensures .0))
+    (moved .1 .0 ∙ base-when r k t (p .cfl) _ _ _ _ w _ e)
+    (wrote .1 .1 ∙ carried-written r k t (p .cfl) _ _ _ _ w (carried m) (carried-transported m))
 
 pub complete-spec : {M : Type 1} → statement M
 complete-spec =

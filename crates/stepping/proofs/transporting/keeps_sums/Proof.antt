@@ -1,20 +1,20 @@
--- `stepping::transporting::keeps_sums` meets its contract. The loop: the cells passed cover what left them. Assumes nothing.
+-- `stepping::transporting::keeps_sums` meets its contract. The loop: the cells passed cover what came into them. Assumes nothing.
 use mathlib.Core.Path.{_≡_, sym, ap₂, _∙_}
 use mathlib.Core.Bool.{Bool, true}
-use mathlib.Core.List.{List, [], _∷_}
+use mathlib.Core.List.{List}
 use Prim.Native.Nat.{ℕ, _+_, _-_, _≤_, _<_}
 use native.Mathlib.Omega.{arith}
 use lib.Dec.{leb}
-use lib.IntN.{ℤ, pos, _+ℤ_, natAbs}
+use lib.IntN.{ℤ, pos, _+ℤ_, negℤ, natAbs}
 use lib.ListN.{length, getD}
 use denote.Ref.{now}
 use mir.Facts.{toZ-ofZ}
 use borrow.Author.Needs.{sfits-of}
 use borrow.Author.Tests.{not-true, not-false}
 use Rattle.numbers.specs.Index.{allBelow}
+use Rattle.numbers.specs.Signed.{positive}
 use Rattle.numbers.proofs.IndexLaws.{all-none, all-more, all-fails}
 use Rattle.numbers.proofs.SignedLaws.{abs-add}
-use Rattle.reach.specs.Parts.{outflow}
 use Rattle.stepping.specs.Ranges.{sumsKept}
 use Rattle.stepping.proofs.transporting.keeps_sums.Statement.{statement}
 use Rattle.stepping.proofs.transporting.keeps_sums.Tie as tie
@@ -23,19 +23,19 @@ use Rattle.stepping.proofs.transporting.keeps_sums.Tie as tie
 abbrev sumAt : List ℤ → List ℤ → ℕ → ℤ
 sumAt c net i = getD c i (pos 0) +ℤ getD net i (pos 0)
 
-abbrev coveredAt : List ℕ → List ℤ → List ℤ → List ℕ → List ℕ → ℕ → Bool
-coveredAt b c net d g i = leb (outflow (sumAt c net i) (sumAt c net (i + 1)) ((getD d i 0 + getD g i 0) ∷ [])) (getD b i 0)
+abbrev coveredAt : List ℤ → List ℤ → List ℕ → ℕ → Bool
+coveredAt c net h i = leb (positive (sumAt c net i) + positive (negℤ (sumAt c net (i + 1)))) (getD h i 0)
 
 abbrev Inv-loop : tie.InvT-loop
-Inv-loop b c net d g n i₀ i = (i ≤ n) × (allBelow i (coveredAt b c net d g) ≡ true)
+Inv-loop n c net h i₀ i = (i ≤ n) × (allBelow i (coveredAt c net h) ≡ true)
 
 abbrev μ-loop : tie.MeasureT-loop
-μ-loop b c net d g n i₀ i = n - i
+μ-loop n c net h i₀ i = n - i
 
 abbrev start : tie.In-loop Inv-loop μ-loop → tie.Start Inv-loop μ-loop
-start c = c .before .before .before .before .before
+start c = c .before .before .before
 
-index : (c : tie.In-loop Inv-loop μ-loop) → (c .before .loop .i < length (now (start c .args .base))) × (c .before .loop .i < 1_000_000)
+index : (c : tie.In-loop Inv-loop μ-loop) → (c .before .loop .i < start c .args .n) × (c .before .loop .i < 1_000_000)
 index c = let f = start c .pre .0 .few in let l = c .loop-test .taken in (l, omega (arith, l, f))
 
 -- both columns have an entry at the right of the cell at hand
@@ -47,7 +47,7 @@ interfaces c =
     (omega (arith, l, p .interfaces), omega (arith, l, p .long))
 
 -- the sum at an interface of a cell is far from the ends of its type
-sum-most : (c : tie.In-loop Inv-loop μ-loop) (i : ℕ) → i ≤ length (now (start c .args .base)) → natAbs (sumAt (now (start c .args .carried)) (now (start c .args .net)) i) ≤ 2_000_000_000
+sum-most : (c : tie.In-loop Inv-loop μ-loop) (i : ℕ) → i ≤ start c .args .n → natAbs (sumAt (now (start c .args .carried)) (now (start c .args .net)) i) ≤ 2_000_000_000
 sum-most c i l =
     let p = start c .pre .0 in
     omega (arith, abs-add (getD (now (start c .args .carried)) i (pos 0)) (getD (now (start c .args .net)) i (pos 0)), p .carried i l, p .crossed i l)
@@ -64,21 +64,21 @@ right-sum c = rw (toZ-ofZ (sfits-of (c .before .before .sum-of-arg3 .given)), to
 
 -- the sums of a cell, and its turn
 abbrev summed : tie.After-covers Inv-loop μ-loop → tie.After-sum-of2 Inv-loop μ-loop
-summed c = c .before .before .before
+summed c = c .before
 
 abbrev turn : tie.After-sum-of2 Inv-loop μ-loop → tie.In-loop Inv-loop μ-loop
 turn c = c .before .before .before .before .before .before .before
 
 cell-is : (c : tie.After-covers Inv-loop μ-loop) →
     let k = turn (summed c) in
-    c .covers .result ≡ coveredAt (now (start k .args .base)) (now (start k .args .carried)) (now (start k .args .net)) (now (start k .args .drawn)) (now (start k .args .given)) (k .before .loop .i)
+    c .covers .result ≡ coveredAt (now (start k .args .carried)) (now (start k .args .net)) (now (start k .args .new-depth)) (k .before .loop .i)
 cell-is c =
     let m = summed c in
     let k = turn m in
     let i = k .before .loop .i in
     let l = m .before .before .before in
     let e = rw (toZ-ofZ (sfits-of (l .sum-of .ok)), toZ-ofZ (sfits-of (m .sum-of2 .ok))) at (c .covers .ensures) in
-    e ∙ ap₂ (λ (y z : ℤ). leb (outflow y z ((getD (now (start k .args .drawn)) i 0 + getD (now (start k .args .given)) i 0) ∷ [])) (getD (now (start k .args .base)) i 0)) (left-sum l) (right-sum m)
+    e ∙ ap₂ (λ (y z : ℤ). leb (positive y + positive (negℤ z)) (getD (now (start k .args .new-depth)) i 0)) (left-sum l) (right-sum m)
 
 loop-holds : tie.Need-loop-holds Inv-loop μ-loop
 loop-holds c = (omega arith, all-none _)
@@ -87,7 +87,7 @@ mul-covers : tie.Need-mul-covers Inv-loop μ-loop
 mul-covers c = let l = index c in omega (arith, l .1)
 
 shared-slice-read-covers : tie.Need-shared-slice-read-covers Inv-loop μ-loop
-shared-slice-read-covers c = index (c .before) .0
+shared-slice-read-covers c = let k = c .before in let l = index k in omega (arith, l .0, start k .pre .1)
 
 mul-sum-of : tie.Need-mul-sum-of Inv-loop μ-loop
 mul-sum-of c = let l = index (c .before) in omega (arith, l .1)
@@ -106,7 +106,7 @@ sum-of-requires c κs =
     let k = c .before .before .before in
     let p = start k .pre .0 in
     let i = k .before .loop .i in
-    let l : i ≤ length (now (start k .args .base)) = omega (arith, index k .0) in
+    let l : i ≤ start k .args .n = omega (arith, index k .0) in
     rw (toZ-ofZ (sfits-of (c .before .sum-of-arg .given)), toZ-ofZ (sfits-of (c .sum-of-arg2 .given))) (p .carried i l, p .crossed i l)
 
 add-sum-of : tie.Need-add-sum-of Inv-loop μ-loop
@@ -132,39 +132,16 @@ sum-of-requires-2 c κs =
     let k = c .before .before .before .before .before .before in
     let p = start k .pre .0 in
     let i = k .before .loop .i + 1 in
-    let l : i ≤ length (now (start k .args .base)) = omega (arith, index k .0) in
+    let l : i ≤ start k .args .n = omega (arith, index k .0) in
     rw (toZ-ofZ (sfits-of (c .before .sum-of-arg3 .given)), toZ-ofZ (sfits-of (c .sum-of-arg4 .given))) (p .carried i l, p .crossed i l)
-
-mul-covers-2 : tie.Need-mul-covers-2 Inv-loop μ-loop
-mul-covers-2 c = let l = index (turn c) in omega (arith, l .1)
-
-shared-slice-read-covers-2 : tie.Need-shared-slice-read-covers-2 Inv-loop μ-loop
-shared-slice-read-covers-2 c = let k = turn (c .before) in let l = index k in omega (arith, l .0, start k .pre .1 .drawn-long)
-
-mul-covers-3 : tie.Need-mul-covers-3 Inv-loop μ-loop
-mul-covers-3 c = let l = index (turn (c .before)) in omega (arith, l .1)
-
-shared-slice-read-covers-3 : tie.Need-shared-slice-read-covers-3 Inv-loop μ-loop
-shared-slice-read-covers-3 c = let k = turn (c .before .before) in let l = index k in omega (arith, l .0, start k .pre .1 .given-long)
-
-drawn-sum : (c : tie.After-sum-of2 Inv-loop μ-loop) → (let k = turn c in getD (now (start k .args .drawn)) (k .before .loop .i) 0 + getD (now (start k .args .given)) (k .before .loop .i) 0 ≤ 2_000_000_000)
-drawn-sum c =
-    let k = turn c in
-    let p = start k .pre .1 in
-    let l = index k .0 in
-    omega (arith, p .drawn-most (k .before .loop .i) l, p .given-most (k .before .loop .i) l)
-
-add-covers : tie.Need-add-covers Inv-loop μ-loop
-add-covers c = omega (arith, drawn-sum (c .before .before))
 
 covers-requires : tie.Need-covers-requires Inv-loop μ-loop
 covers-requires c κs =
-    let m = c .before .before in
-    let k = turn m in
+    let k = turn c in
     let i = k .before .loop .i in
     let l = index k .0 in
-    rw (toZ-ofZ (sfits-of (m .before .before .before .sum-of .ok)), toZ-ofZ (sfits-of (m .sum-of2 .ok)), left-sum (m .before .before .before), right-sum m)
-    (sum-most k i (omega (arith, l)), (sum-most k (i + 1) (omega (arith, l)), drawn-sum m))
+    rw (toZ-ofZ (sfits-of (c .before .before .before .sum-of .ok)), toZ-ofZ (sfits-of (c .sum-of2 .ok)), left-sum (c .before .before .before), right-sum c)
+    (sum-most k i (omega (arith, l)), sum-most k (i + 1) (omega (arith, l)))
 
 returns : tie.Need-returns Inv-loop μ-loop
 unfolding sumsKept
@@ -187,7 +164,7 @@ loop-again c =
 returns-2 : tie.Need-returns-2 Inv-loop μ-loop
 unfolding sumsKept
 returns-2 c =
-    let e : c .before .loop .i ≡ length (now (c .before .before .before .before .before .args .base)) = omega arith in
+    let e : c .before .loop .i ≡ c .before .before .before .args .n = omega arith in
     sym (rw e at (c .before .loop .inv .1))
 
 pub keeps-sums-spec : {M : Type 1} → statement M
@@ -211,11 +188,6 @@ keeps-sums-spec =
     mul-sum-of-4
     shared-slice-copy-out-sum-of-4
     sum-of-requires-2
-    mul-covers-2
-    shared-slice-read-covers-2
-    mul-covers-3
-    shared-slice-read-covers-3
-    add-covers
     covers-requires
     returns
     add-i
