@@ -17,32 +17,35 @@ use drawing::dealing::deal;
 use outlet::Outlet;
 use outlet::Outlets;
 use reach::cells::CELLS_MOST;
+use reach::held::Held;
 
-// What is wanted of each cell, added up in a column of zeros
-pub fn wants_by_cell(outlets: Outlets, column: &mut [u64])
-    requires { ⌜ outlets .count ≤ outletsMost ⌝ }
-    requires { ⌜ ((k : ℕ) → k < outlets .count → (outletAt outlets k .cell < length (now column)) × (outletAt outlets k .want ≤ wantMost)) ⌝ }
+// What is wanted of each cell, added up in a column of zeros. The list is read out of what is held only where there is an outlet: it is long to copy.
+pub fn wants_by_cell(held: Held, column: &mut [u64])
+    requires { ⌜ held .outlets .count ≤ outletsMost ⌝ }
+    requires { ⌜ ((k : ℕ) → k < held .outlets .count → (outletAt (held .outlets) k .cell < length (now column)) × (outletAt (held .outlets) k .want ≤ wantMost)) ⌝ }
     requires { ⌜ ((i : ℕ) → getD (now column) i 0 ≡ 0) ⌝ }
-    ensures { λ _. ⌜ now (column .exit) ≡ tabulate (length (now (column .entry))) (λ i. sum (wantsFrom outlets i)) ⌝ }
+    ensures { λ _. ⌜ now (column .exit) ≡ tabulate (length (now (column .entry))) (λ i. sum (wantsFrom (held .outlets) i)) ⌝ }
 {
-    if outlets.count == 0 {
+    if held.outlets.count == 0 {
         return;
     }
+    let outlets = held.outlets;
     let amounts = wants_of(outlets);
     add_by_cell(outlets, amounts, column);
 }
 
 // What each outlet has of what its cell gives
-pub fn deal_out(outlets: Outlets, given: &[u64]) -> [u64; 32]
-    requires { ⌜ Granted outlets (tabulate cellsMost (λ i. sum (wantsFrom outlets i))) (now given) ⌝ }
-    ensures { λ r. ⌜ r ≡ tabulate 32 (λ k. cond (ltb k (outlets .count)) (getD (dealt (getD (now (given .entry)) (outletAt outlets k .cell) 0) (wantsFrom outlets (outletAt outlets k .cell))) k 0) 0) ⌝ }
+pub fn deal_out(held: Held, given: &[u64]) -> [u64; 32]
+    requires { ⌜ Granted (held .outlets) (tabulate cellsMost (λ i. sum (wantsFrom (held .outlets) i))) (now given) ⌝ }
+    ensures { λ r. ⌜ r ≡ tabulate 32 (λ k. cond (ltb k (held .outlets .count)) (getD (dealt (getD (now (given .entry)) (outletAt (held .outlets) k .cell) 0) (wantsFrom (held .outlets) (outletAt (held .outlets) k .cell))) k 0) 0) ⌝ }
 {
-    if outlets.count == 0 {
+    if held.outlets.count == 0 {
         return [0u64; 32];
     }
+    let outlets = held.outlets;
     let mut wanted = [0u64; CELLS_MOST];
     let mut left = [0u64; CELLS_MOST];
-    wants_by_cell(outlets, &mut wanted);
+    wants_by_cell(held, &mut wanted);
     deal(outlets, &wanted, given, &mut left)
 }
 

@@ -239,13 +239,12 @@ fn advance(
     ensures { λ r. ⌜ StepCameTo (came bed depth discharge mass base carried x held) t r (now (depth .exit)) (now (discharge .exit)) (now (mass .exit)) (now (base .exit)) (now (carried .exit)) ⌝ }
 {
     let boundaries = held.boundaries;
-    let outlets = held.outlets;
     let n = bed.len();
     let mut net = [0i64; CELLS_MOST + 1];
     let mut given = [0u64; CELLS_MOST];
     let mut new_depth = [0u64; CELLS_MOST];
     let mut new_discharge = [0i64; CELLS_MOST];
-    wants_by_cell(outlets, &mut given);
+    wants_by_cell(held, &mut given);
     let Check::Pass = sweep(
         t,
         x,
@@ -263,7 +262,7 @@ fn advance(
     let Check::Pass = check_depths(&new_depth, n) else {
         return stopped(12, held);
     };
-    let got = deal_out(outlets, &given);
+    let got = deal_out(held, &given);
     complete(
         bed,
         depth,

@@ -29,9 +29,9 @@ slice-aggregate-wants-by-cell c = search needs
 
 wants-by-cell-requires : tie.Need-wants-by-cell-requires
 wants-by-cell-requires c κs =
-    let s = c .before .before .before .before in
+    let s = c .before .before .before .before .before in
     let g = s .pre in
-    let long = length-tabulate 512 (λ i. sum (wantsFrom (s .args .outlets) i)) in
+    let long = length-tabulate 512 (λ i. sum (wantsFrom (s .args .held .outlets) i)) in
     (g .few, ((λ k l. (omega (arith, g .within k l, long), g .small k l)), zeros 512))
 
 slice-aggregate-deal : tie.Need-slice-aggregate-deal
@@ -42,10 +42,10 @@ slice-aggregate-deal-2 c = search needs
 
 deal-requires : tie.Need-deal-requires
 deal-requires c κs =
-    let s = c .before .before .before .before .before .before .before .before in
+    let s = c .before .before .before .before .before .before .before .before .before in
     let g = s .pre in (
-      subst (λ (ws : List ℕ). Granted (s .args .outlets) ws (now (s .args .given))) (sym (c .before .before .before .wants-by-cell .ensures)) g,
-      sym (g .long ∙ length-tabulate 512 (λ i. sum (wantsFrom (s .args .outlets) i))),
+      subst (λ (ws : List ℕ). Granted (s .args .held .outlets) ws (now (s .args .given))) (sym (c .before .before .before .wants-by-cell .ensures)) g,
+      sym (g .long ∙ length-tabulate 512 (λ i. sum (wantsFrom (s .args .held .outlets) i))),
     )
 
 returns-2 : tie.Need-returns-2

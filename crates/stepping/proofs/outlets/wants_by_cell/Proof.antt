@@ -30,24 +30,24 @@ from-zeros os column a few z e =
 returns : tie.Need-returns
 returns c =
     let s = c .before .before .before in
-    none-added (s .args .outlets) (now (s .args .column)) _ (c .if1 .taken) ∙ from-zeros (s .args .outlets) (now (s .args .column)) _ (s .pre .0) (s .pre .1 .1) refl
+    none-added (s .args .held .outlets) (now (s .args .column)) _ (c .if1 .taken) ∙ from-zeros (s .args .held .outlets) (now (s .args .column)) _ (s .pre .0) (s .pre .1 .1) refl
 
 wants-of-requires : tie.Need-wants-of-requires
 wants-of-requires c κs = search needs
 
 add-by-cell-requires : tie.Need-add-by-cell-requires
 add-by-cell-requires c κs =
-    let s = c .before .before .before .before .before in
+    let s = c .before .before .before .before .before .before in
     let p = s .pre .1 .0 in
-    (s .pre .0, ((λ k l. (p k l .0, omega (arith, want-at (s .args .outlets) _ (c .before .wants-of .ensures) k (omega (arith, l, s .pre .0)), p k l .1))), (λ i l. omega (arith, s .pre .1 .1 i))))
+    (s .pre .0, ((λ k l. (p k l .0, omega (arith, want-at (s .args .held .outlets) _ (c .before .wants-of .ensures) k (omega (arith, l, s .pre .0)), p k l .1))), (λ i l. omega (arith, s .pre .1 .1 i))))
 
 same-length : tie.Need-same-length
 same-length c = search needs
 
 returns-2 : tie.Need-returns-2
 returns-2 c =
-    let s = c .before .before .before .before .before .before .before .before in
-    c .before .before .add-by-cell .ensures ∙ from-zeros (s .args .outlets) (now (s .args .column)) _ (s .pre .0) (s .pre .1 .1) (c .before .before .before .before .wants-of .ensures)
+    let s = c .before .before .before .before .before .before .before .before .before in
+    c .before .before .add-by-cell .ensures ∙ from-zeros (s .args .held .outlets) (now (s .args .column)) _ (s .pre .0) (s .pre .1 .1) (c .before .before .before .before .wants-of .ensures)
 
 pub wants-by-cell-spec : {M : Type 1} → statement M
 wants-by-cell-spec = tie.close (tie.spec returns wants-of-requires add-by-cell-requires same-length returns-2)

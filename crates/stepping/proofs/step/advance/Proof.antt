@@ -46,7 +46,7 @@ fine s = mesh (reach s) (whole s) (s .args .t) (s .pre .1 .0)
 -- ---- after the sweep
 
 abbrev entry : tie.After-sweep → tie.Start
-entry c = c .before .before .before .before .before .before .before .before .before .before .before .before .before .before .before .before
+entry c = c .before .before .before .before .before .before .before .before .before .before .before .before .before .before .before
 
 -- what is wanted of each cell
 abbrev wants : tie.After-sweep → List ℕ
@@ -97,7 +97,7 @@ slice-aggregate-wants-by-cell c = search needs
 
 wants-by-cell-requires : tie.Need-wants-by-cell-requires
 wants-by-cell-requires c κs =
-    let k = whole (c .before .before .before .before .before .before .before) in
+    let k = whole (c .before .before .before .before .before .before) in
     (outlets-few _ _ (k .outlets), ((λ j l. let o = outlet-sound _ _ (k .outlets) j l in (omega (arith, o .cell, k .few), o .want)), zeros 512))
 
 slice-aggregate-sweep : tie.Need-slice-aggregate-sweep
@@ -114,7 +114,7 @@ slice-aggregate-sweep-4 c = search needs
 
 sweep-requires : tie.Need-sweep-requires
 sweep-requires c κs =
-    let s = c .before .before .before .before .before .before .before .before .before .before .before .before .before .before .before in
+    let s = c .before .before .before .before .before .before .before .before .before .before .before .before .before .before in
     let k = whole s in
     let n = k .few in
     ((fine s, water-fits (reach s) k), (omega (arith, n), (omega (arith, n, wanted-long (reach s) k (s .args .t) _ (c .before .before .before .before .before .before .before .wants-by-cell .ensures)), (omega (arith, n), omega (arith, n)))))
