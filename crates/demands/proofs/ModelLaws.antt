@@ -1,7 +1,7 @@
 -- Document 01's sentences about amounts and calls, from the laws of the definitions.
 use mathlib.Core.Path.{_≡_, refl, sym, ap, _∙_, subst}
-use mathlib.Core.Bool.{Bool, true, false, cond, _&&_, and-true}
-use mathlib.Core.List.{List, [], _∷_}
+use mathlib.Core.Bool.{Bool, true, false, cond, _&&_}
+use mathlib.Core.List.{List, []}
 use Prim.Native.Nat.{ℕ, suc, _+_, _-_, _*_, _/_, _≤_, _<_, min}
 use native.Mathlib.Nat.{add-zero}
 use native.Mathlib.Omega.{arith}
@@ -25,7 +25,8 @@ use Rattle.cfl.proofs.CflLaws.{fastest-greatest, fastest-lowest, greatest-step-
 use Rattle.outlet.specs.Outlets.{outletAt, fromCell, eachOutlet}
 use Rattle.outlet.specs.declared.Outlets.{Outlets}
 use Rattle.reach.specs.Reach.{Reach, cells, massAt, baseAt, carriedAt}
-use Rattle.reach.specs.Grounds.{firstRefusal, numberOf, boundariesFit, outletsFit, carriedFits, ledgerFits, allTotalsFit, recordGrounds}
+use Rattle.reach.specs.Grounds.{firstRefusal, numberOf, boundariesFit, carriedFits, recordGrounds}
+use Rattle.reach.proofs.OutletLaws.{none-fit, none-total}
 use Rattle.reach.specs.Outcome.{Outcome}
 use Rattle.reach.specs.Parts.{outflow, drawnFrom}
 use Rattle.reach.specs.declared.boundary.Boundary.{Boundary}
@@ -35,12 +36,12 @@ use Rattle.reach.proofs.PartsLaws.{outflow-is}
 use Rattle.reach.proofs.Sound.{Sound, sound}
 use Rattle.mass.specs.Transport.{rightwards, leftwards, outletShare}
 use Rattle.mass.proofs.TransportLaws.{right-share-floor, left-share-floor, outlet-share-at}
-use Rattle.transport.specs.Calls.{massColumnsOf, afterTransport, transport, setBoundaries}
+use Rattle.transport.specs.Calls.{massColumnsOf, afterTransport, transport}
 use Rattle.transport.proofs.CallsLaws.{emptied-at, by-transport, stands-again, transport-is, left-by-setting, left-by-transport}
 use Rattle.timestep.specs.GreatestStep.{placeSpeed, greatest, greatestTime, greatestPlace}
 use Rattle.timestep.specs.declared.GreatestAnswer.{GreatestAnswer}
 use Rattle.timestep.proofs.GreatestLaws.{time-in-range, dry-reach}
-use Rattle.water.specs.Water.{netAt, available, wantsFrom, draws, drawOf, newDepth, undrawnDepth}
+use Rattle.water.specs.Water.{available, wantsFrom, draws, drawOf, newDepth, undrawnDepth}
 use Rattle.water.specs.Sides.{cellSide}
 use Rattle.water.specs.Ranges.{granted}
 use Rattle.water.proofs.WaterLaws.{granted-is, draws-dealt, draw-most}
@@ -154,12 +155,12 @@ first-count s t = go (keepsSums s t)
     go false = transported-count s
 
 pub with-no-outlet : WithNoOutlet
-unfolding outletsFit allBelow allOf carriedFits allTotalsFit noneDrawn newDepth undrawnDepth keepsSums summed afterStep stepHeld stepOutlets eachOutlet sum
+unfolding allBelow allOf carriedFits noneDrawn newDepth undrawnDepth keepsSums summed afterStep stepHeld stepOutlets eachOutlet sum
 with-no-outlet = record {
-  fits = λ n os e. rw e refl;
+  fits = none-fit;
   none-drawn-from = drawn-none;
   carried = λ h b l r. rw (outflow-is l r [], less-nothing (pos b +ℤ l -ℤ r) 0 refl, add-zero (positive r + positive (negℤ l))) refl;
-  totals = λ h e. rw e (and-true (ledgerFits (h .ledger)));
+  totals = none-total;
   none-drawn = λ os e. rw e refl;
   depth = λ s t i e. less-nothing _ (sum (draws s t i)) (nothing-drawn s t i e .0);
   keeps = λ s t e. all-same _ _ (cells s) (λ i l. rw (nothing-drawn s t i e .1) (ap (λ (n : ℕ). leb n (baseAt s i)) (outflow-is _ _ [] ∙ add-zero _)));

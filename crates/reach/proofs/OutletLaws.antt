@@ -1,16 +1,16 @@
 -- Laws of what a list of outlets has drawn: cut at more than any base depth it passes ground 8 where it would uncut, and is then the same. Assumes
 -- nothing.
-use mathlib.Core.Path.{_≡_, refl, sym, ap, _∙_}
-use mathlib.Core.Bool.{Bool, true, false, cond}
+use mathlib.Core.Path.{_≡_, refl, sym, _∙_}
+use mathlib.Core.Bool.{Bool, true, false, cond, and-true}
 use mathlib.Core.List.{List, [], _∷_}
-use Prim.Native.Nat.{ℕ, _+_, _*_, _≤_, _<_, min}
+use Prim.Native.Nat.{ℕ, _+_, _≤_, _<_, min}
 use native.Mathlib.Omega.{arith}
 use borrow.Author.Tests.{eq-eqb}
 use lib.Dec.{eqb}
-use lib.IntN.{ℤ}
-use lib.ListN.{getD}
-use Rattle.numbers.specs.Index.{sum, sumBelow, tabulate}
-use Rattle.numbers.proofs.IndexLaws.{all-of, all-at, all-below, on, only, getD-tabulate, tabulate-same, sum-small, sum-same, sum-part, sum-tabulate}
+use lib.IntN.{ℤ, pos}
+use lib.ListN.{length, getD}
+use Rattle.numbers.specs.Index.{allOf, allBelow, sum, sumBelow, tabulate}
+use Rattle.numbers.proofs.IndexLaws.{all-of, all-at, all-below, all-same, by-index, on, only, getD-tabulate, tabulate-same, sum-small, sum-same, sum-part, sum-tabulate}
 use Rattle.outlet.specs.Outlets.{outletsMost, outletAt, fromCell, eachOutlet}
 use Rattle.outlet.specs.declared.Outlet.{Outlet}
 use Rattle.outlet.specs.declared.Outlets.{Outlets}
@@ -18,11 +18,12 @@ use Rattle.outlet.proofs.OutletLaws.{each-at, each-count}
 use Rattle.drawing.specs.Ranges.{byCell}
 use Rattle.drawing.proofs.DrawingLaws.{drawn-fits, drawn-same}
 use Rattle.flux.specs.Limits.{depthMost}
-use Rattle.reach.specs.Parts.{outflow, drawnFrom}
-use Rattle.reach.specs.Grounds.{carriedFits, outletFits, outletsFit}
-use Rattle.reach.specs.Ranges.{cutDrawn}
+use Rattle.reach.specs.declared.held.Held.{Held}
+use Rattle.reach.specs.Parts.{drawnFrom}
+use Rattle.reach.specs.Grounds.{carriedFits, carriedCellsFit, carriedFit, outletFits, outletsFit, ledgerFits, allTotalsFit}
+use Rattle.reach.specs.Ranges.{CarriedColumns, Clear, alone, cutDrawn}
 use Rattle.reach.proofs.PartsLaws.{outflow-is, sum-single}
-use Rattle.reach.proofs.Sound.{CarriedSound, carried-sound, carried-stands}
+use Rattle.reach.proofs.Sound.{CarriedSound, carried-sound, carried-stands, outlets-few}
 
 module _ (os : Outlets) (few : os .count ≤ outletsMost) where
   cut-at : (k : ℕ) → k < os .count → getD (tabulate outletsMost (λ k. min (outletAt os k .drawn) 4_000_001)) k 0 ≡ min (outletAt os k .drawn) 4_000_001
@@ -76,6 +77,35 @@ module _ (os : Outlets) (few : os .count ≤ outletsMost) where
       go false e false f = refl
       go true e false f = sym f ∙ uncut (carried-sound h b l r _ e)
       go false e true f = sym (sym e ∙ cut (carried-sound h b l r _ f))
+
+-- ---- the column of the cells' sums
+
+pub at-cell : (os : Outlets) (d : List ℕ) → d ≡ tabulate 512 (cutDrawn os) → (i : ℕ) → i < 512 → getD d i 0 ≡ cutDrawn os i
+at-cell os d e i l = rw e (getD-tabulate 512 (cutDrawn os) i 0 l)
+
+-- ground 8 says the same of what was drawn and of its sums by cell
+pub same-ground : (h b : List ℕ) (c : List ℤ) (os : Outlets) (d : List ℕ) (left right : ℕ) → CarriedColumns h b c → outletsFit (length h) os ≡ true → d ≡ tabulate 512 (cutDrawn os)
+    → carriedFit h b c (alone d) left right ≡ carriedFit h b c (drawnFrom os) left right
+unfolding carriedFit carriedCellsFit
+same-ground h b c os d left right k f e =
+    let test : (ℕ → List ℕ) → ℕ → Bool = λ (ds : ℕ → List ℕ) (i : ℕ). carriedFits (getD h i 0) (getD b i 0) (getD c i (pos 0)) (getD c (i + 1) (pos 0)) (ds i) in
+    rw (all-same (test (alone d)) (test (drawnFrom os)) (length h) (λ i l.
+    rw (at-cell os d e i (omega (arith, l, k .few)))
+    (carried-cut os (outlets-few (length h) os f) (getD h i 0) (getD b i 0) (getD c i (pos 0)) (getD c (i + 1) (pos 0)) i (k .base i l)))) refl
+
+-- ---- no outlet: 16 stands, 9 is of the ledger alone, and nothing is drawn
+
+pub none-fit : (n : ℕ) (os : Outlets) → os .count ≡ 0 → outletsFit n os ≡ true
+unfolding outletsFit allBelow allOf
+none-fit n os e = rw e refl
+
+pub none-total : (h : Held) → h .outlets .count ≡ 0 → allTotalsFit h ≡ ledgerFits (h .ledger)
+unfolding allTotalsFit allBelow allOf
+none-total h e = rw e (and-true (ledgerFits (h .ledger)))
+
+pub none-cut : (os : Outlets) (d : List ℕ) → os .count ≡ 0 → Clear d → d ≡ tabulate 512 (cutDrawn os)
+unfolding byCell sumBelow
+none-cut os d e z = by-index 512 (cutDrawn os) 0 d (z .long) (λ i l. rw e (z .zeros i))
 
 -- ---- a list whose outlets are replaced, each in its cell
 

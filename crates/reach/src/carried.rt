@@ -65,7 +65,7 @@ fn check_carried_cells(depth: &[u64], base: &[u64], carried: &[i64], drawn: &[u6
 }
 
 // `drawn` is what the outlets of each cell have drawn together.
-fn check_carried_with(
+pub fn check_carried_with(
     depth: &[u64],
     base: &[u64],
     carried: &[i64],

@@ -1,14 +1,14 @@
 -- Laws of the step's call: what a sound record owes its functions, that what they find is what the definitions say, and what each outcome is.
 -- Assumes nothing.
-use mathlib.Core.Path.{_≡_, refl, sym, ap, ap₂, _∙_, subst}
-use mathlib.Core.Bool.{Bool, true, false, not, cond, _&&_}
-use mathlib.Core.List.{List, [], _∷_}
+use mathlib.Core.Path.{_≡_, refl, sym, ap, _∙_, subst}
+use mathlib.Core.Bool.{Bool, true, false, not, cond}
+use mathlib.Core.List.{List}
 use Prim.Native.Nat.{ℕ, zero, suc, _+_, _-_, _*_, _≤_, _<_}
 use native.Mathlib.Numerals.{add-one}
 use native.Mathlib.Omega.{arith}
-use borrow.Author.Tests.{leb-true, le-leb, eqb-true, le-ltb, lt-ltb, ne-eqb}
+use borrow.Author.Tests.{leb-true, le-leb, lt-ltb, ne-eqb}
 use lib.Dec.{leb, ltb, eqb}
-use lib.IntN.{ℤ, pos, negsuc, _+ℤ_, negℤ, natAbs}
+use lib.IntN.{ℤ, pos, negsuc, _+ℤ_, natAbs}
 use lib.Signed.{leZ}
 use lib.ListN.{length, getD, replicate, length-replicate}
 use Rattle.numbers.specs.Index.{allBelow, tabulate, sum}
@@ -21,16 +21,16 @@ use Rattle.outlet.specs.Outlets.{outletsMost, wantMost, outletAt}
 use Rattle.outlet.specs.declared.Outlets.{Outlets}
 use Rattle.outlet.proofs.OutletLaws.{each-at, each-count, each-same}
 use Rattle.drawing.specs.Ranges.{Granted}
-use Rattle.flux.specs.Limits.{depthMost, timeStepMost}
+use Rattle.flux.specs.Limits.{depthMost}
 use Rattle.flux.specs.Interface.{Side, mirrored}
 use Rattle.flux.specs.Ranges.{Mesh}
 use Rattle.flux.specs.Velocity.{velocity}
 use Rattle.cfl.specs.Cfl.{signalSpeed, speedAt, meetsCfl}
 use Rattle.reach.specs.Limits.{wall, openBoundary, fed, carriedMost, cellsMost, totalMost}
-use Rattle.reach.specs.Reach.{Reach, reachOf, cells, depthAt, dischargeAt, baseAt, carriedAt, leftBoundary, rightBoundary, withTotals}
+use Rattle.reach.specs.Reach.{Reach, reachOf, cells, depthAt, dischargeAt, carriedAt, leftBoundary, rightBoundary, withTotals}
 use Rattle.reach.specs.Grounds.{firstRefusal, recordGrounds, boundaryFits, boundariesFit, kindFits, allTotalsFit, passOr}
 use Rattle.reach.specs.Outcome.{Outcome, outcome}
-use Rattle.reach.specs.Parts.{outflow, drawnFrom}
+use Rattle.reach.specs.Parts.{drawnFrom}
 use Rattle.reach.specs.Ranges.{alone, cutDrawn}
 use Rattle.reach.specs.declared.held.Held.{Held}
 use Rattle.reach.specs.declared.boundary.Boundary.{Boundary}
@@ -41,21 +41,21 @@ use Rattle.reach.specs.declared.refusal.Check.{Check}
 use Rattle.reach.specs.declared.refusal.Check.the-variants.{Pass, Refused}
 use Rattle.reach.proofs.GroundsLaws.{go-on, stop-at, last-one, further, no-further, numbered, refused-number}
 use Rattle.reach.proofs.OutletLaws.{one-drawn}
-use Rattle.reach.proofs.PartsLaws.{outflow-is, sum-single}
+use Rattle.reach.proofs.PartsLaws.{outflow-is}
 use Rattle.reach.proofs.Sound.{Sound, outlets-few, outlet-sound}
 use Rattle.mass.specs.Transport.{massColumns, movedOutlet, movedOutlets}
 use Rattle.mass.specs.Ranges.{Ready, movedMass}
 use Rattle.transport.specs.Calls.{massColumnsOf, withMass, ledgerWith, transportOutlets, transportHeld, afterTransport}
 use Rattle.transport.specs.Ranges.{massColumnsWith, Small}
-use Rattle.transport.proofs.CallsLaws.{drawn-at, crossed-with, ready-entering, moved-entering, outlets-are, small, ledger-is, carried-zero}
+use Rattle.transport.proofs.CallsLaws.{crossed-with, ready-entering, moved-entering, outlets-are, small, ledger-is, carried-zero}
 use Rattle.water.specs.Sides.{sideSpeed, cellSide, boundarySide, leftSide, rightSide}
 use Rattle.water.specs.Water.{netAt, wantsFrom, draws, drawOf, newDepth, newDischarge}
 use Rattle.water.specs.Ranges.{fluxMost, flowOf, FlowFits, sideMeets, sidesMeet, granted, grantedDepth, grantedDischarge, Swept}
 use Rattle.water.proofs.WaterLaws.{right-side-cell, right-side-end, net-small, granted-is, depth-is, discharge-is, draws-dealt, draw-most}
 use Rattle.timestep.specs.GreatestStep.{boundarySpeed, leftSpeed, rightSpeed, placeSpeed}
 use Rattle.stepping.specs.declared.step.StepAnswer.{StepAnswer}
-use Rattle.update.proofs.StepLaws.{by-step, transported-count, summed-drawn, drawn-depth, water-fits as outlet-water-fits, each-totals, kept-by-depth}
-use Rattle.update.specs.Step.{summed, summedDrawn, keepsSums, transportedFirst, withBoundaryWater, stepLedger, steppedOutlet, stepOutlets, stepHeld, afterStep, timeFits, depthsFit, stepGrounds, step, transports}
+use Rattle.update.proofs.StepLaws.{by-step, transported-count, water-fits as outlet-water-fits, each-totals, kept-by-depth}
+use Rattle.update.specs.Step.{summed, keepsSums, transportedFirst, withBoundaryWater, stepLedger, steppedOutlet, stepOutlets, stepHeld, afterStep, timeFits, depthsFit, stepGrounds, step, transports}
 use Rattle.stepping.specs.StepCall.{stoppedBy, StepCameTo}
 use Rattle.stepping.specs.Ranges.{Summable, sumsKept, BoundaryMassWhen, outletWith, withDraws, Room, StepFound}
 

@@ -1,12 +1,12 @@
 -- Not the paper's: what the inner functions require and give. A reader of the model may skip this file.
 use mathlib.Core.Path.{_≡_}
 use mathlib.Core.Bool.{Bool, true, false}
-use mathlib.Core.List.{List, [], _∷_}
+use mathlib.Core.List.{List}
 use Prim.Native.Nat.{ℕ, _+_, _≤_, _<_}
 use lib.Dec.{leb}
 use lib.IntN.{ℤ, pos, _+ℤ_, negℤ, natAbs}
 use lib.ListN.{length, getD}
-use Rattle.numbers.specs.Index.{allBelow, sum}
+use Rattle.numbers.specs.Index.{allBelow}
 use Rattle.numbers.specs.Signed.{positive}
 use Rattle.outlet.specs.Outlets.{outletsMost, wantMost, outletAt, eachOutlet}
 use Rattle.outlet.specs.declared.Outlet.{Outlet}
@@ -14,13 +14,12 @@ use Rattle.outlet.specs.declared.Outlets.{Outlets}
 use Rattle.flux.specs.Limits.{depthMost}
 use Rattle.reach.specs.Limits.{totalMost}
 use Rattle.reach.specs.Reach.{Reach, cells}
-use Rattle.reach.specs.Parts.{outflow}
 use Rattle.mass.specs.Transport.{MassColumns}
 use Rattle.transport.specs.Ranges.{BoundaryMassOf}
 use Rattle.cfl.specs.Cfl.{meetsCfl}
 use Rattle.timestep.specs.GreatestStep.{placeSpeed}
 use Rattle.update.specs.Step.{timeFits, depthsFit}
-use Rattle.water.specs.Water.{netAt, draws, drawOf, newDepth, newDischarge}
+use Rattle.water.specs.Water.{netAt, drawOf, newDepth, newDischarge}
 
 -- carried water c and amounts N of n cells' interfaces, far from the ends of their type
 pub record Summable (n : ℕ) (c net : List ℤ) : Type 0 where

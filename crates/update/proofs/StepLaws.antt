@@ -2,17 +2,17 @@
 use mathlib.Core.Path.{_≡_, refl, sym, ap, ap₂, _∙_, subst}
 use mathlib.Core.Bool.{Bool, true, false, cond}
 use mathlib.Core.Logic.{⊎-elim}
-use mathlib.Core.List.{List, [], _∷_}
+use mathlib.Core.List.{List}
 use Prim.Native.Nat.{ℕ, zero, suc, _+_, _-_, _*_, _≤_, _<_}
 use native.Mathlib.Nat.{zero-add}
 use native.Mathlib.Numerals.{add-one}
 use native.Mathlib.Omega.{arith}
 use borrow.Author.Tests.{leb-true, leb-false, le-leb, lt-leb, lt-ltb}
 use lib.Dec.{leb, eqb}
-use lib.IntN.{ℤ, pos, _+ℤ_, _-ℤ_, negℤ, subℕ, natAbs, +ℤ-idl}
+use lib.IntN.{ℤ, pos, _+ℤ_, negℤ, subℕ, natAbs, +ℤ-idl}
 use lib.Signed.{leZ}
-use lib.ListN.{length, getD, getD-replicate}
-use Rattle.numbers.specs.Index.{allBelow, tabulate, sum, sumBelow}
+use lib.ListN.{length, getD}
+use Rattle.numbers.specs.Index.{tabulate, sum, sumBelow}
 use Rattle.numbers.specs.Signed.{positive}
 use Rattle.numbers.proofs.IndexLaws.{all-of, all-at, all-below, on, only, length-tabulate, getD-tabulate, telescope, sum-tabulate, sum-by-index, sum-same, sum-add}
 use Rattle.numbers.proofs.SignedLaws.{R, L, right-sub, left-sub, add-cross, one-part, abs-parts}
@@ -25,14 +25,13 @@ use Rattle.flux.specs.Limits.{depthMost}
 use Rattle.flux.specs.Wave.{waveSpeed}
 use Rattle.flux.specs.Velocity.{velocity}
 use Rattle.cfl.specs.Cfl.{signalSpeed, speedAt, meetsCfl}
-use Rattle.reach.specs.Limits.{carriedMost, totalMost, wall}
+use Rattle.reach.specs.Limits.{totalMost}
 use Rattle.reach.specs.Reach.{Reach, cells, bedAt, depthAt, dischargeAt, massAt, baseAt, carriedAt, leftBoundary, rightBoundary, withTotals}
 use Rattle.reach.specs.Grounds.{firstRefusal, recordGrounds, boundariesFit, totalsFit, ledgerFits, outletsFit, outletTotalsFit, allTotalsFit}
 use Rattle.reach.specs.Outcome.{Outcome, outcome}
 use Rattle.reach.specs.Balance.{waterHeld, waterIn, waterOut, outletWater, waterGone, WaterBalanced, massHeld, massIn, massOut, outletMass, massGone, MassBalanced, everywhere, CellsWithin, BoundariesWithin}
 use Rattle.reach.specs.declared.held.Held.{Held}
 use Rattle.reach.specs.declared.ledger.Totals.{Totals}
-use Rattle.reach.specs.declared.ledger.Ledger.{Ledger}
 use Rattle.reach.specs.declared.boundary.Boundary.{Boundary}
 use Rattle.reach.specs.declared.refusal.Check.{Check}
 use Rattle.reach.specs.declared.refusal.Check.the-variants.{Pass, Refused}
@@ -241,9 +240,6 @@ module _ (s : Reach) (k : Sound s) (t : ℕ) (cfl : meetsCfl (placeSpeed s) (cel
   -- and with what its outlets draw
   drawn-at : (i : ℕ) → i < cells s → leftward s t i + rightward s t (suc i) + sum (draws s t i) ≤ depthAt s i
   drawn-at i l = drawn-covered s t i l some-length (cfl-at i l)
-
-  pub drawn-depth : (i : ℕ) → i < cells s → sum (draws s t i) ≤ depthAt s i
-  drawn-depth i l = omega (arith, drawn-at i l)
 
   depth-at : (i : ℕ) → i < cells s
       → positive (newDepth s t i) ≡ depthAt s i + rightward s t i + leftward s t (suc i) - (leftward s t i + rightward s t (suc i) + sum (draws s t i))

@@ -4,14 +4,13 @@ use mathlib.Core.Path.{_≡_}
 use mathlib.Core.Bool.{true, false}
 use mathlib.Core.List.{List, [], _∷_, _++_}
 use Prim.Native.Nat.{ℕ, _-_}
-use lib.IntN.{ℤ, pos}
+use lib.IntN.{pos}
 use lib.ListN.{length, replicate}
 use Rattle.outlet.specs.Outlets.{noOutlet}
 use Rattle.outlet.specs.declared.Outlet.{Outlet}
 use Rattle.outlet.specs.declared.Outlets.{Outlets}
 use Rattle.reach.specs.Reach.{Reach, heldWith}
 use Rattle.reach.specs.declared.boundary.Boundary.{Boundary}
-use Rattle.reach.specs.declared.ledger.Ledger.{Ledger}
 use Rattle.sheet.specs.Opening.{emptyLedger}
 use Rattle.water.specs.Water.{available, draws}
 use Rattle.update.specs.Step.{step, transports}

@@ -1,7 +1,6 @@
 -- Document 02, point 1: what outlets draw and what goes with it, worked out.
 use mathlib.Core.Path.{_≡_}
 use mathlib.Core.List.{[], _∷_}
-use Prim.Native.Nat.{ℕ}
 use Rattle.numbers.specs.Deal.{floors, dealt}
 use Rattle.numbers.specs.Shares.{shares, rest}
 use Rattle.reach.specs.Parts.{parts}

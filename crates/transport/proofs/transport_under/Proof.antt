@@ -1,8 +1,6 @@
 -- `transport::transport_under` meets its contract: `full` and `accepted` say what each outcome is. Assumes nothing.
-use mathlib.Core.Path.{_≡_, refl, sym, ap, ap₂, _∙_}
-use mathlib.Core.Bool.{Bool}
+use mathlib.Core.Path.{_≡_, refl, sym, ap₂, _∙_}
 use mathlib.Core.List.{List}
-use Prim.Native.Nat.{ℕ}
 use native.Mathlib.Omega.{arith}
 use denote.Ref.{now}
 use Rattle.outlet.specs.declared.Outlets.{Outlets}
@@ -15,7 +13,7 @@ use Rattle.reach.specs.declared.held.Held.{Held}
 use Rattle.reach.specs.declared.ledger.Ledger.{Ledger}
 use Rattle.reach.proofs.GroundsLaws.{passed, refused-by}
 use Rattle.reach.proofs.Sound.{Sound, sound, outlets-few, ledger-fits}
-use Rattle.transport.specs.Calls.{massColumnsOf, enteringLeft, enteringRight, transportLedger, transportOutlets, transportHeld, afterTransport, holding}
+use Rattle.transport.specs.Calls.{massColumnsOf, transportLedger, transportOutlets, transportHeld, afterTransport, holding}
 use Rattle.transport.specs.Ranges.{BoundaryMassOf}
 use Rattle.transport.proofs.CallsLaws.{ready-with, crossed-with, drawn-long, ready-entering, moved-entering, outlets-ready, outlets-are, small, ledger-is, full, accepted}
 use borrow.Author.Needs.{needs}

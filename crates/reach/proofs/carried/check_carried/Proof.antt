@@ -1,36 +1,19 @@
 -- `reach::carried::check_carried` meets its contract: ground 8 says the same of what was drawn and of its sums by cell. Assumes nothing.
-use mathlib.Core.Path.{_≡_, refl, sym, ap, _∙_}
-use mathlib.Core.Bool.{Bool, true}
+use mathlib.Core.Path.{_≡_, ap, _∙_}
 use mathlib.Core.List.{List}
-use Prim.Native.Nat.{ℕ, _+_, _≤_, _<_}
+use Prim.Native.Nat.{ℕ}
 use native.Mathlib.Omega.{arith}
-use denote.Ref.{now}
-use lib.IntN.{ℤ, pos}
-use lib.ListN.{length, getD}
-use Rattle.numbers.specs.Index.{allOf, tabulate}
-use Rattle.numbers.proofs.IndexLaws.{length-tabulate, getD-tabulate, all-same}
+use lib.ListN.{length}
+use Rattle.numbers.specs.Index.{tabulate}
+use Rattle.numbers.proofs.IndexLaws.{length-tabulate}
 use Rattle.outlet.specs.declared.Outlets.{Outlets}
-use Rattle.reach.specs.Parts.{drawnFrom}
-use Rattle.reach.specs.Grounds.{carriedFits, carriedCellsFit, carriedFit, outletsFit, passOr}
-use Rattle.reach.specs.Ranges.{CarriedColumns, alone, cutDrawn}
+use Rattle.reach.specs.Grounds.{passOr}
+use Rattle.reach.specs.Ranges.{cutDrawn}
 use Rattle.reach.proofs.Sound.{outlets-few, outlet-sound}
-use Rattle.reach.proofs.OutletLaws.{cut-most, carried-cut}
+use Rattle.reach.proofs.OutletLaws.{cut-most, at-cell, same-ground}
 use borrow.Author.Needs.{needs}
 use Rattle.reach.proofs.carried.check_carried.Statement.{statement}
 use Rattle.reach.proofs.carried.check_carried.Tie as tie
-
--- the column of the cells' sums
-at-cell : (os : Outlets) (d : List ℕ) → d ≡ tabulate 512 (cutDrawn os) → (i : ℕ) → i < 512 → getD d i 0 ≡ cutDrawn os i
-at-cell os d e i l = rw e (getD-tabulate 512 (cutDrawn os) i 0 l)
-
-same-ground : (h b : List ℕ) (c : List ℤ) (os : Outlets) (d : List ℕ) (left right : ℕ) → CarriedColumns h b c → outletsFit (length h) os ≡ true → d ≡ tabulate 512 (cutDrawn os)
-    → carriedFit h b c (alone d) left right ≡ carriedFit h b c (drawnFrom os) left right
-unfolding carriedFit carriedCellsFit
-same-ground h b c os d left right k f e =
-    let test : (ℕ → List ℕ) → ℕ → Bool = λ (ds : ℕ → List ℕ) (i : ℕ). carriedFits (getD h i 0) (getD b i 0) (getD c i (pos 0)) (getD c (i + 1) (pos 0)) (ds i) in
-    rw (all-same (test (alone d)) (test (drawnFrom os)) (length h) (λ i l.
-    rw (at-cell os d e i (omega (arith, l, k .few)))
-    (carried-cut os (outlets-few (length h) os f) (getD h i 0) (getD b i 0) (getD c i (pos 0)) (getD c (i + 1) (pos 0)) i (k .base i l)))) refl
 
 drawn-by-cell-requires : tie.Need-drawn-by-cell-requires
 drawn-by-cell-requires c κs =

@@ -8,7 +8,7 @@ use denote.Ref.{now}
 use lib.ListN.{length, getD}
 use Rattle.numbers.specs.Index.{tabulate}
 use Rattle.numbers.proofs.IndexLaws.{getD-tabulate, tabulate-same}
-use Rattle.outlet.specs.Outlets.{outletsMost, outletAt}
+use Rattle.outlet.specs.Outlets.{outletAt}
 use Rattle.outlet.specs.declared.Outlets.{Outlets}
 use Rattle.drawing.specs.Ranges.{byCell}
 use Rattle.drawing.proofs.DrawingLaws.{none-added}

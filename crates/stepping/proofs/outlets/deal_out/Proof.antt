@@ -6,12 +6,11 @@ use Prim.Native.Nat.{ℕ}
 use native.Mathlib.Omega.{arith}
 use denote.Ref.{now}
 use lib.Dec.{ltb}
-use lib.ListN.{length, replicate}
+use lib.ListN.{replicate}
 use borrow.Author.Needs.{needs}
 use borrow.Author.Tests.{le-ltb}
 use Rattle.numbers.specs.Index.{sum, tabulate}
 use Rattle.numbers.proofs.IndexLaws.{zeros, by-index, length-tabulate}
-use Rattle.outlet.specs.declared.Outlets.{Outlets}
 use Rattle.drawing.specs.Ranges.{Granted}
 use Rattle.water.specs.Water.{wantsFrom}
 use Rattle.stepping.proofs.outlets.deal_out.Statement.{statement}

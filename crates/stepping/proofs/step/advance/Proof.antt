@@ -1,13 +1,13 @@
 -- `stepping::step::advance` meets its contract: what the functions find is what the definitions say (`StepCallLaws`), ground by ground.
 -- Assumes nothing.
-use mathlib.Core.Path.{_≡_, refl, sym, ap, _∙_, subst}
+use mathlib.Core.Path.{_≡_, sym, _∙_, subst}
 use mathlib.Core.Bool.{Bool, true}
 use mathlib.Core.List.{List}
-use Prim.Native.Nat.{ℕ, _+_, _≤_, _<_}
+use Prim.Native.Nat.{ℕ, _+_, _<_}
 use native.Mathlib.Omega.{arith}
 use denote.Ref.{now}
 use lib.Dec.{leb}
-use lib.IntN.{ℤ, pos}
+use lib.IntN.{ℤ}
 use lib.ListN.{length, getD}
 use borrow.Author.Needs.{needs}
 use Rattle.numbers.specs.Index.{allBelow, sum, tabulate}
@@ -26,7 +26,7 @@ use Rattle.water.specs.Water.{wantsFrom, newDepth}
 use Rattle.water.proofs.WaterLaws.{sides-same, swept-same}
 use Rattle.timestep.specs.GreatestStep.{placeSpeed}
 use Rattle.update.specs.Step.{depthsFit}
-use Rattle.stepping.specs.StepCall.{stoppedBy, StepCameTo}
+use Rattle.stepping.specs.StepCall.{StepCameTo}
 use Rattle.stepping.specs.declared.step.StepAnswer.{StepAnswer}
 use Rattle.stepping.proofs.StepCallLaws.{mesh, water-fits, met-is, depths-are, wanted-long, depth-of, discharge-of, grants, got-of, stopped-11, stopped-12, stayed}
 use Rattle.stepping.proofs.step.advance.Statement.{statement}

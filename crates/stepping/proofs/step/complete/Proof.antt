@@ -1,29 +1,25 @@
 -- `stepping::step::complete` meets its contract: what was found of the step is what the definitions say (`StepCallLaws`). Assumes nothing.
 use mathlib.Core.Path.{_≡_, refl, sym, ap, _∙_, subst}
-use mathlib.Core.Bool.{Bool, not}
+use mathlib.Core.Bool.{not}
 use mathlib.Core.List.{List}
-use Prim.Native.Nat.{ℕ, _+_, _≤_, _<_}
 use native.Mathlib.Omega.{arith}
 use denote.Ref.{now}
-use lib.IntN.{ℤ, pos}
-use lib.ListN.{length, getD}
+use lib.IntN.{ℤ}
 use mir.Facts.{toZ-ofZ}
 use borrow.Author.Needs.{needs, sfits-of}
 use Rattle.numbers.specs.Index.{tabulate}
 use Rattle.flux.specs.Ranges.{Mesh}
 use Rattle.reach.specs.Limits.{cellsMost}
-use Rattle.reach.specs.Ranges.{cutDrawn, alone}
+use Rattle.reach.specs.Ranges.{cutDrawn}
 use Rattle.reach.specs.Reach.{Reach, reachOf, cells}
 use Rattle.reach.specs.Grounds.{allTotalsFit}
-use Rattle.reach.specs.declared.held.Held.{Held}
 use Rattle.reach.proofs.GroundsLaws.{passed, refused-by}
 use Rattle.reach.proofs.Sound.{Sound, sound, outlets-few, ledger-fits}
-use Rattle.transport.specs.Ranges.{massColumnsWith}
 use Rattle.transport.proofs.CallsLaws.{ready-with, drawn-long, outlets-ready}
-use Rattle.update.specs.Step.{keepsSums, transportedFirst, stepOutlets, stepHeld, afterStep}
+use Rattle.update.specs.Step.{keepsSums, transportedFirst, stepHeld}
 use Rattle.update.proofs.StepLaws.{step-count}
-use Rattle.stepping.specs.StepCall.{stoppedBy, StepCameTo}
-use Rattle.stepping.specs.Ranges.{BoundaryMassWhen, StepFound}
+use Rattle.stepping.specs.StepCall.{StepCameTo}
+use Rattle.stepping.specs.Ranges.{StepFound}
 use Rattle.stepping.specs.declared.step.StepAnswer.{StepAnswer}
 use Rattle.stepping.proofs.StepCallLaws.{mesh, sums-are, net-at, summable, depth-written, discharge-written, carried-written, addable, room, room-when, small-when, ready-when, held-after, mass-when, base-when, carried-when, stopped-13, stepped-on, stayed, came-out}
 use Rattle.stepping.proofs.step.complete.Statement.{statement}
