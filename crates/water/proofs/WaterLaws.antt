@@ -367,6 +367,16 @@ nearest-parts most z =
 
 -- ---- a boundary beside the cell c, by its kind
 
+-- a boundary has the bed of its cell
+pub boundary-bed : (p : BoundaryPlace) (e : Boundary) (c : Side) → boundarySide p e c .bed ≡ c .bed
+unfolding boundarySide mirrored
+boundary-bed p e c = go (eqb (e .kind) wall) (eqb (e .kind) openBoundary)
+  where
+    go : (a b : Bool) → cond a (mirrored c) (cond b c (record { bed = c .bed; depth = e .depth; velocity = velocity (e .depth) (e .discharge) })) .bed ≡ c .bed
+    go true b = refl
+    go false true = refl
+    go false false = refl
+
 pub boundary-wall : (p : BoundaryPlace) (e : Boundary) (c : Side) → e .kind ≡ wall → boundarySide p e c ≡ mirrored c
 unfolding boundarySide
 boundary-wall p e c w = rw (eq-eqb _ _ w) refl

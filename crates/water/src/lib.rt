@@ -111,6 +111,23 @@ pub fn exchange_between(t: u64, x: u64, l: SideState, r: SideState) -> Exchange
     }
 }
 
+// The same between two sides at one bed level, as a boundary and its cell are: no depth is reduced there, and nothing lost
+pub fn exchange_level(t: u64, x: u64, l: SideState, r: SideState) -> Exchange
+    requires { ⌜ Mesh t x × (SideStateFits l × SideStateFits r) ⌝ }
+    requires { ⌜ l .bed ≡ r .bed ⌝ }
+    ensures { λ c. ⌜ ExchangeOf t x (sideOf l) (sideOf r) (c .rightward) (c .leftward) (c .momentum) (c .«lost_left») (c .«lost_right») × ExchangeFits c ⌝ }
+{
+    let a = fluxes_of(t, x, l.depth, l.wave, l.right, l.left);
+    let b = fluxes_of(t, x, r.depth, r.wave, r.left, r.right);
+    Exchange {
+        rightward: a.water,
+        leftward: b.water,
+        momentum: a.momentum + b.momentum,
+        lost_left: 0,
+        lost_right: 0,
+    }
+}
+
 // right − left, moved to the nearest value in −most..most
 pub fn nearest_in(right: u64, left: u64, most: u64) -> i64
     requires { ⌜ most < 9_223_372_036_854_775_808 ⌝ }

@@ -20,6 +20,7 @@ use super::boundary_state;
 use super::cell_state;
 use super::discharge_after;
 use super::exchange_between;
+use super::exchange_level;
 use numbers::signed::excess;
 use numbers::signed::joined;
 use reach::boundary::Boundary;
@@ -139,7 +140,7 @@ pub fn sweep(
     let mut cell = cell_state(bed[0], depth[0], discharge[0]);
     let beyond = boundary_state(BoundaryPlace::Left, boundaries[0], cell);
     let mut met = still_meets(still_meets(true, t, x, beyond), t, x, cell);
-    let mut left = exchange_between(t, x, beyond, cell);
+    let mut left = exchange_level(t, x, beyond, cell);
     net[0] = net_of(left);
     let mut i = 0;
     while i < n {

@@ -15,12 +15,14 @@ use borrow.Author.Needs.{needs, sfits-of}
 use Rattle.numbers.specs.Index.{allBelow}
 use Rattle.numbers.specs.Signed.{positive}
 use Rattle.numbers.proofs.IndexLaws.{Written, written-none, written-first, written-more}
+use Rattle.flux.specs.Interface.{Side}
 use Rattle.reach.specs.Reach.{Reach, cells}
+use Rattle.reach.specs.declared.boundary.BoundaryPlace.the-variants.{Left}
 use Rattle.reach.specs.Grounds.{passOr}
 use Rattle.water.specs.Sides.{cellSide, boundarySide, leftSide, rightSide}
 use Rattle.water.specs.Water.{netAt}
 use Rattle.water.specs.Ranges.{sideOf, SideStateFits, ExchangeOf, ExchangeFits, flowOf, sideMeets, sidesMeet, granted, grantedDepth, grantedDischarge}
-use Rattle.water.proofs.WaterLaws.{right-side-cell, exchange-at, left-side-next, right-side-next, net-by-crossing, grant-by-crossings, depth-by-crossings, discharge-by-crossings, meets-more}
+use Rattle.water.proofs.WaterLaws.{boundary-bed, right-side-cell, exchange-at, left-side-next, right-side-next, net-by-crossing, grant-by-crossings, depth-by-crossings, discharge-by-crossings, meets-more}
 use Rattle.water.proofs.sweep.sweep.Statement.{statement}
 use Rattle.water.proofs.sweep.sweep.Tie as tie
 
@@ -48,10 +50,10 @@ abbrev start : tie.In-loop Inv-loop μ-loop → tie.Start Inv-loop μ-loop
 start c = entry (c .before .before)
 
 -- the turn of an interface, of what a cell gives, and of what it is left with
-abbrev turn : tie.After-exchange-between2 Inv-loop μ-loop → tie.In-loop Inv-loop μ-loop
+abbrev turn : tie.After-exchange-between Inv-loop μ-loop → tie.In-loop Inv-loop μ-loop
 turn c = c .before .before .before
 
-abbrev gives : tie.After-granted-of Inv-loop μ-loop → tie.After-exchange-between2 Inv-loop μ-loop
+abbrev gives : tie.After-granted-of Inv-loop μ-loop → tie.After-exchange-between Inv-loop μ-loop
 gives c = c .before .before .before
 
 abbrev left-with : tie.After-depth-after Inv-loop μ-loop → tie.After-granted-of Inv-loop μ-loop
@@ -97,15 +99,15 @@ next c =
     let e = c .right-side .ensures in
     (e .0, e .1 ∙ right-side-next (flow (start k)) (k .before .loop .i) (sideOf (k .before .loop .cell)) (index k .0) (here k))
 
-crossing : (c : tie.After-exchange-between2 Inv-loop μ-loop) →
+crossing : (c : tie.After-exchange-between Inv-loop μ-loop) →
     let k = c .before .before .before in
     let s = flow (start k) in
     let i = k .before .loop .i in
-    let r = c .exchange-between2 .result in
+    let r = c .exchange-between .result in
     ExchangeOf (start k .args .t) (start k .args .x) (leftSide s (i + 1)) (rightSide s (i + 1)) (r .rightward) (r .leftward) (r .momentum) (r .«lost_left») (r .«lost_right») × ExchangeFits r
 crossing c =
     let k = c .before .before .before in
-    let e = c .exchange-between2 .ensures in
+    let e = c .exchange-between .ensures in
     (exchange-at (here k ∙ sym (left-side-next (flow (start k)) (k .before .loop .i))) (next (c .before) .1) (e .0), e .1)
 
 shared-slice-copy-out-cell-state : tie.Need-shared-slice-copy-out-cell-state Inv-loop μ-loop
@@ -134,11 +136,15 @@ still-meets-requires c κs = (c .before .before .before .before .before .before 
 still-meets-requires-2 : tie.Need-still-meets-requires-2 Inv-loop μ-loop
 still-meets-requires-2 c κs = (c .before .before .before .before .before .before .before .before .before .before .pre .0 .0, first (c .before .before .before) .0)
 
-exchange-between-requires : tie.Need-exchange-between-requires Inv-loop μ-loop
-exchange-between-requires c κs = (c .before .before .before .before .before .before .before .before .before .before .before .pre .0 .0, (beyond (c .before .before) .0, first (c .before .before .before .before) .0))
+exchange-level-requires : tie.Need-exchange-level-requires Inv-loop μ-loop
+exchange-level-requires c κs =
+    let b = c .before .before .boundary-state .ensures in (
+      (c .before .before .before .before .before .before .before .before .before .before .before .pre .0 .0, (beyond (c .before .before) .0, first (c .before .before .before .before) .0)),
+      ap (λ (d : Side). d .bed) (b .1) ∙ boundary-bed Left _ (sideOf (c .before .before .before .before .cell-state .result)),
+    )
 
 net-of-requires : tie.Need-net-of-requires Inv-loop μ-loop
-net-of-requires c κs = c .exchange-between .ensures .1
+net-of-requires c κs = c .exchange-level .ensures .1
 
 slice-set-from-net : tie.Need-slice-set-from-net Inv-loop μ-loop
 slice-set-from-net c = let p = entry c .pre .1 .0 in omega (arith, p)
@@ -151,7 +157,7 @@ loop-holds c =
     let a = first (c .before .before .before .before .before .before) in
     let b = beyond (c .before .before .before .before) in
     let r = a .1 ∙ sym (right-side-cell (flow s) 0 (p .some)) in
-    let e = c .before .exchange-between .ensures in
+    let e = c .before .exchange-level .ensures in
     let k = exchange-at (b .1) r (e .0) in
     let meets = sideMeets (s .args .t) (s .args .x) in (
       omega arith,
@@ -177,8 +183,8 @@ right-side-requires c κs =
     let p = start (c .before) .pre .0 .1 in
     ((p .depths, p .discharges), ((λ l. p .cell _ l), (c .before .before .loop .inv .4, p .right)))
 
-exchange-between-requires-2 : tie.Need-exchange-between-requires-2 Inv-loop μ-loop
-exchange-between-requires-2 c κs = (start (c .before .before) .pre .0 .0, (c .before .before .before .loop .inv .4, next c .0))
+exchange-between-requires : tie.Need-exchange-between-requires Inv-loop μ-loop
+exchange-between-requires c κs = (start (c .before .before) .pre .0 .0, (c .before .before .before .loop .inv .4, next c .0))
 
 mul-granted-of : tie.Need-mul-granted-of Inv-loop μ-loop
 mul-granted-of c = let l = index (turn c) in omega (arith, l .1)
@@ -371,14 +377,14 @@ sweep-spec =
     boundary-state-requires
     still-meets-requires
     still-meets-requires-2
-    exchange-between-requires
+    exchange-level-requires
     net-of-requires
     slice-set-from-net
     loop-holds
     array-copy-out-right-side
     add-right-side
     right-side-requires
-    exchange-between-requires-2
+    exchange-between-requires
     mul-granted-of
     shared-slice-read-granted-of
     mul-granted-of-2
