@@ -183,7 +183,9 @@ typedef struct {
     jemmyfern_boundaries boundaries;
     jemmyfern_ledger ledger;
     uint64_t time; /* ms, 1 to 1,000 */
-    size_t place;  /* where the water is fastest: 0 the left boundary, 1..n the cells, n+1 the right boundary */
+    /* where the water is fastest: 0 the left boundary, 1..n the cells, n+1 the right boundary. The highest place among equals; a boundary that is
+     * not fed counts as 0, so that it is n+1 where all cells are dry and no boundary is fed */
+    size_t place;
 } jemmyfern_greatest;
 
 /* The columns, in this order in every call: bed level (the paper's 'bottom'), depth, discharge, mass (the paper's 'nutrient') and base depth,
@@ -220,7 +222,7 @@ jemmyfern_answer jemmyfern_set_boundaries(const int64_t *bed, size_t bed_length,
                                           uint64_t cell_length, jemmyfern_boundaries boundaries, jemmyfern_ledger ledger,
                                           jemmyfern_boundaries new_boundaries);
 
-/* The greatest time step that the record allows now. */
+/* The greatest time step that the record allows now, and where the water is fastest: the highest place among equals. */
 jemmyfern_greatest jemmyfern_greatest_step(const int64_t *bed, size_t bed_length, const uint64_t *depth, size_t depth_length,
                                            const int64_t *discharge, size_t discharge_length,
                                            const uint64_t *mass, size_t mass_length, const uint64_t *base, size_t base_length,

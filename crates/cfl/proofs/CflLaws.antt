@@ -1,11 +1,11 @@
--- Laws of CFL: the signal speed is small, the fastest place has the greatest speed and is the lowest that has it, and the greatest step
+-- Laws of CFL: the signal speed is small, the fastest place has the greatest speed and is the highest that has it, and the greatest step
 -- is the one that this speed allows. Assumes nothing.
 use mathlib.Core.Path.{_≡_, refl, sym, ap, subst, _∙_}
-use mathlib.Core.Bool.{Bool, true, cond}
+use mathlib.Core.Bool.{Bool, true, false, cond}
 use mathlib.Core.List.{List}
 use mathlib.Core.Logic.{⊎-elim}
 use Prim.Native.Nat.{ℕ, zero, suc, _+_, _*_, _/_, _≤_, _<_, zero-le}
-use native.Mathlib.Nat.{eq-zero-or-pos, le-div-iff-mul-le, le-antisymm, le-trans, eq-or-lt-of-le, le-of-suc-le-suc, not-suc-le-zero, mul-le-mul-left, mul-le-mul-right, div-mul-le-self}
+use native.Mathlib.Nat.{le-div-iff-mul-le, le-antisymm, le-trans, eq-or-lt-of-le, le-of-suc-le-suc, mul-le-mul-left, mul-le-mul-right, div-mul-le-self}
 use native.Mathlib.Numerals.{add-one}
 use native.Mathlib.Omega.{arith}
 use lib.IntN.{ℤ, pos, natAbs}
@@ -13,7 +13,7 @@ use lib.ListN.{length, getD}
 use lib.Dec.{leb, leb→le, le→leb, nleb→lt}
 use borrow.Author.Tests.{le-leb, lt-leb, leb-true, lt-ltb, le-ltb}
 use Rattle.numbers.proofs.IndexLaws.{all-below, all-fails}
-use Rattle.numbers.proofs.SearchLaws.{by-test, by-less, climb-holds, climb-most, climb-reaches}
+use Rattle.numbers.proofs.SearchLaws.{by-test, climb-holds, climb-most, climb-reaches}
 use Rattle.flux.specs.Limits.{depthMost, velocityMost, timeStepMost, cellLengthLeast}
 use Rattle.flux.proofs.VelocityLaws.{velocity-most}
 use Rattle.flux.proofs.WaveLaws.{wave-speed-most}
@@ -68,11 +68,15 @@ module _ (X v : ℕ) where
 record Leads (speed : ℕ → ℕ) (k p : ℕ) : Type 0 where
   within : p ≤ k
   greatest : (i : ℕ) → i ≤ k → speed i ≤ speed p
-  lowest : (i : ℕ) → i < p → speed i < speed p
+  highest : (i : ℕ) → p < i → i ≤ k → speed i < speed p
 
 -- the last place, or one before it
 by-last : (P : ℕ → Type 0) (k i : ℕ) → i ≤ suc k → P (suc k) → (i ≤ k → P i) → P i
 by-last P k i l f g = ⊎-elim (λ e. subst P (sym e) f) (λ m. g (le-of-suc-le-suc m)) (eq-or-lt-of-le l)
+
+-- by the two outcomes of 'at most'
+by-most : (a b : ℕ) (P : Bool → Type 0) → (a ≤ b → P true) → (b < a → P false) → P (leb a b)
+by-most a b P f g = by-test (leb a b) P (λ t. f (leb→le a b t)) (λ t. g (nleb→lt a b t))
 
 -- a place and its speed are those of the fastest of the places 0..k
 abbrev pub FastestIs : (speed : ℕ → ℕ) (k place v : ℕ) → Type 0
@@ -84,20 +88,20 @@ module _ (speed : ℕ → ℕ) where
   leads zero = record {
     within = omega arith;
     greatest = λ i l. omega (arith, ap speed (le-antisymm l zero-le));
-    lowest = λ i l. absurd (not-suc-le-zero l);
+    highest = λ i l m. absurd (omega arith);
   }
   leads (suc k) =
       let old = leads k in
-      by-less (speed (fastestPlace speed k)) (speed (suc k)) (λ b. Leads speed (suc k) (cond b (suc k) (fastestPlace speed k)))
-      (λ faster. record {
+      by-most (speed (fastestPlace speed k)) (speed (suc k)) (λ b. Leads speed (suc k) (cond b (suc k) (fastestPlace speed k)))
+      (λ asFast. record {
         within = omega arith;
         greatest = λ i l. by-last (λ i. speed i ≤ speed (suc k)) k i l (omega arith) (λ m. omega (arith, old .greatest i m));
-        lowest = λ i l. omega (arith, old .greatest i (omega arith));
+        highest = λ i l m. absurd (omega arith);
       })
       (λ slower. record {
         within = omega arith;
         greatest = λ i l. by-last (λ i. speed i ≤ speed (fastestPlace speed k)) k i l (omega arith) (old .greatest i);
-        lowest = old .lowest;
+        highest = λ i l m. by-last (λ i. speed i < speed (fastestPlace speed k)) k i m slower (old .highest i l);
       })
 
   pub fastest-within : (k : ℕ) → fastestPlace speed k ≤ k
@@ -106,8 +110,8 @@ module _ (speed : ℕ → ℕ) where
   pub fastest-greatest : (k i : ℕ) → i ≤ k → speed i ≤ speed (fastestPlace speed k)
   fastest-greatest k = leads k .greatest
 
-  pub fastest-lowest : (k i : ℕ) → i < fastestPlace speed k → speed i < speed (fastestPlace speed k)
-  fastest-lowest k = leads k .lowest
+  pub fastest-highest : (k i : ℕ) → fastestPlace speed k < i → i ≤ k → speed i < speed (fastestPlace speed k)
+  fastest-highest k = leads k .highest
 
   -- ---- place by place, as the code goes
 
@@ -115,15 +119,15 @@ module _ (speed : ℕ → ℕ) where
   unfolding fastestPlace
   fastest-first = (refl, refl)
 
-  pub fastest-raised : (k place v w : ℕ) → FastestIs speed k place v → w ≡ speed (k + 1) → v < w → FastestIs speed (k + 1) (k + 1) w
+  pub fastest-raised : (k place v w : ℕ) → FastestIs speed k place v → w ≡ speed (k + 1) → v ≤ w → FastestIs speed (k + 1) (k + 1) w
   unfolding fastestPlace
   fastest-raised k place v w f e l =
-      (rw add-one (rw (lt-ltb (speed (fastestPlace speed k)) (speed (suc k)) (rw (f .1, f .0, e, add-one) at l))), e)
+      (rw add-one (rw (le-leb (speed (fastestPlace speed k)) (speed (suc k)) (rw (f .1, f .0, e, add-one) at l))), e)
 
-  pub fastest-kept : (k place v w : ℕ) → FastestIs speed k place v → w ≡ speed (k + 1) → w ≤ v → FastestIs speed (k + 1) place v
+  pub fastest-kept : (k place v w : ℕ) → FastestIs speed k place v → w ≡ speed (k + 1) → w < v → FastestIs speed (k + 1) place v
   unfolding fastestPlace
   fastest-kept k place v w f e l =
-      (rw add-one (rw (le-ltb (speed (fastestPlace speed k)) (speed (suc k)) (rw (f .1, f .0, e, add-one) at l)) (f .0)), f .1)
+      (rw add-one (rw (lt-leb (speed (fastestPlace speed k)) (speed (suc k)) (rw (f .1, f .0, e, add-one) at l)) (f .0)), f .1)
 
   -- ---- the greatest step
 
@@ -157,9 +161,9 @@ module _ (speed : ℕ → ℕ) where
   greatest-step-some k X f l =
       rw greatest-step-is (step-for-greatest X (speed (fastestPlace speed k)) 1 (omega arith) (omega (arith, f _ (fastest-within k))))
 
-  pub all-dry : (k X : ℕ) → ((i : ℕ) → i ≤ k → speed i ≡ 0) → (fastestPlace speed k ≡ 0) × (greatestStep speed k X ≡ timeStepMost)
+  pub all-dry : (k X : ℕ) → ((i : ℕ) → i ≤ k → speed i ≡ 0) → (fastestPlace speed k ≡ k) × (greatestStep speed k X ≡ timeStepMost)
   all-dry k X f =
       let still = f _ (fastest-within k) in (
-        ⊎-elim (λ e. e) (λ l. absurd (omega (arith, fastest-lowest k 0 l))) (eq-zero-or-pos (fastestPlace speed k)),
+        ⊎-elim (λ e. e) (λ l. absurd (omega (arith, fastest-highest k k l (omega arith)))) (eq-or-lt-of-le (fastest-within k)),
         greatest-step-is k X ∙ step-for-slow X (speed (fastestPlace speed k)) (omega arith),
       )

@@ -29,7 +29,7 @@ meetsCfl speed k X t = allBelow (suc k) (λ i. leb (t * speed i) (1_000 * X))
 unfoldable pub greatestStep : (speed : ℕ → ℕ) (k X : ℕ) → ℕ
 greatestStep speed k X = climb (λ t. meetsCfl speed k X (suc t)) timeStepMost 0
 
--- the place of the greatest |u|+a among the places 0..k, the lowest among equals
+-- the place of the greatest |u|+a among the places 0..k, the highest among equals (document 02, point 2)
 unfoldable pub fastestPlace : (speed : ℕ → ℕ) (k : ℕ) → ℕ
 fastestPlace speed zero = 0
-fastestPlace speed (suc k) = cond (ltb (speed (fastestPlace speed k)) (speed (suc k))) (suc k) (fastestPlace speed k)
+fastestPlace speed (suc k) = cond (leb (speed (fastestPlace speed k)) (speed (suc k))) (suc k) (fastestPlace speed k)

@@ -17,7 +17,7 @@ pub fn signal_speed(h: u64, q: i64) -> u64
     u.right + u.left + wave_speed(h)
 }
 
-// The place of the greatest |u|+a, the lowest among equals, and that speed
+// The place of the greatest |u|+a, the highest among equals, and that speed
 pub struct Fastest {
     pub place: usize,
     pub speed: u64,
@@ -34,13 +34,13 @@ pub fn fastest_of(depth: &[u64], discharge: &[i64], left: u64, right: u64) -> Fa
     let mut i = 0;
     while i < n {
         let v = signal_speed(depth[i], discharge[i]);
-        if speed < v {
+        if speed <= v {
             speed = v;
             place = i + 1;
         }
         i += 1;
     }
-    if speed < right {
+    if speed <= right {
         return Fastest {
             place: n + 1,
             speed: right,

@@ -3,7 +3,7 @@ use mathlib.Core.Path.{_≡_, refl, sym, ap, _∙_, subst}
 use mathlib.Core.Bool.{Bool, true, false, cond, _&&_}
 use mathlib.Core.List.{List, []}
 use Prim.Native.Nat.{ℕ, suc, _+_, _-_, _*_, _/_, _≤_, _<_, min}
-use native.Mathlib.Nat.{add-zero}
+use native.Mathlib.Nat.{add-zero, le-antisymm, le-of-suc-le-suc, lt-of-not-le}
 use native.Mathlib.Omega.{arith}
 use borrow.Author.Tests.{le-leb, leb-true}
 use denote.Ref.{now}
@@ -21,7 +21,7 @@ use Rattle.numbers.proofs.RootLaws.{square-root-low, square-root-greatest}
 use Rattle.flux.specs.Wave.{waveSpeed}
 use Rattle.flux.proofs.CrossingLaws.{lower-le-upper, water-flux-dry, momentum-flux-dry, still-thrust-dry}
 use Rattle.cfl.specs.Cfl.{meetsCfl}
-use Rattle.cfl.proofs.CflLaws.{fastest-greatest, fastest-lowest, greatest-step-meets, greatest-step-greatest}
+use Rattle.cfl.proofs.CflLaws.{fastest-within, fastest-greatest, fastest-highest, greatest-step-meets, greatest-step-greatest}
 use Rattle.outlet.specs.Outlets.{outletAt, fromCell, eachOutlet}
 use Rattle.outlet.specs.declared.Outlets.{Outlets}
 use Rattle.reach.specs.Reach.{Reach, cells, massAt, baseAt, carriedAt}
@@ -40,7 +40,7 @@ use Rattle.transport.specs.Calls.{massColumnsOf, afterTransport, transport}
 use Rattle.transport.proofs.CallsLaws.{emptied-at, by-transport, stands-again, transport-is, left-by-setting, left-by-transport}
 use Rattle.timestep.specs.GreatestStep.{placeSpeed, greatest, greatestTime, greatestPlace}
 use Rattle.timestep.specs.declared.GreatestAnswer.{GreatestAnswer}
-use Rattle.timestep.proofs.GreatestLaws.{time-in-range, dry-reach}
+use Rattle.timestep.proofs.GreatestLaws.{time-in-range, left-unfed, right-unfed, dry-reach}
 use Rattle.water.specs.Water.{available, wantsFrom, draws, drawOf, newDepth, undrawnDepth}
 use Rattle.water.specs.Sides.{cellSide}
 use Rattle.water.specs.Ranges.{granted}
@@ -52,7 +52,7 @@ use Rattle.sheet.proofs.OpeningLaws.{opened-stands, left-by-opening}
 use Rattle.writing.specs.Writing.{noneDrawn}
 use Rattle.jemmyfern_c.proofs.Functions.{given}
 use Rattle.demands.specs.Demand1.{First}
-use Rattle.demands.specs.Model.{Amounts, Drawing, WithNoOutlet, NoGrainKept, Fastest, GreatestStep, Stands, StandsAgain}
+use Rattle.demands.specs.Model.{Amounts, Drawing, WithNoOutlet, NoGrainKept, Fastest, GreatestStep, OneFastest, Stands, StandsAgain}
 use Rattle.demands.proofs.Demand1Laws.{first}
 use Rattle.demands.proofs.Demand2Laws.{transported-count, lentBy, greatest-stood, greatest-is}
 
@@ -199,7 +199,10 @@ fastest s b =
       meets = meets-each s (greatestTime s) (greatest-step-meets speed n (s .cellLength));
       greatest = λ t l f. greatest-step-greatest speed n (s .cellLength) t l (each-meets s t f);
       fastest = λ i l. fastest-greatest speed n i l;
-      lowest = λ i l. fastest-lowest speed n i l;
+      within = omega (arith, fastest-within speed n);
+      highest = λ i l m. fastest-highest speed n i l m;
+      left-unfed = left-unfed s;
+      right-unfed = right-unfed s (b .depths);
       dry = λ d left right. dry-reach s d left right;
     }
 
@@ -209,6 +212,17 @@ greatest-step κs l X h r k z =
     let zero = sym (ap (λ (a : GreatestAnswer). a .refusal) k) ∙ z in
     let same = k ∙ greatest-is s zero in
     subst (λ (a : GreatestAnswer). Fastest s (a .time) (a .place)) (sym same) (fastest s (sound s (h .boundaries) (greatest-stood s zero)))
+
+-- a lower place would be faster than the higher, and the higher at least as fast
+not-lower : (s : Reach) (time time' place place' : ℕ) → Fastest s time place → Fastest s time' place' → place' ≤ place
+not-lower s time time' place place' f g =
+    le-of-suc-le-suc (lt-of-not-le (λ l. omega (arith, f .highest place' l (omega (arith, g .within)), g .fastest place (omega (arith, f .within)))))
+
+pub one-fastest : OneFastest
+one-fastest s time time' place place' f g = (
+  le-antisymm (g .greatest time (f .most) (f .meets)) (f .greatest time' (g .most) (g .meets)),
+  le-antisymm (not-lower s time' time place' place g f) (not-lower s time time' place place' f g),
+)
 
 -- a record that passes is one that stands
 passed : {s s' : Reach} → s ≡ s' → ((es : List Boundary) → boundariesFit es ≡ true → firstRefusal (recordGrounds s' es) ≡ Pass) → Stands s

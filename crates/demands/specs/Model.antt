@@ -108,22 +108,30 @@ NoGrainKept =
     positive (carriedAt s (i + 1)) + positive (negℤ (carriedAt s i)) + sum (drawnFrom (s .held .outlets) i) ≡ baseAt s i →
     getD (e .mass) i 0 ≡ rightwards (massColumnsOf s) i + leftwards (massColumnsOf s) (i + 1)
 
--- 'The call answers the greatest t in 1..1,000 that meets CFL, and the place of the greatest |u|+a .. among equals the lowest place'
+-- 'The call answers the greatest t in 1..1,000 that meets CFL, and the place of the greatest |u|+a: 0 left end, 1..n the cells, n+1 right end; an end that is not fed counts as 0'.
+-- Document 02, point 2: 'Among equal greatest values of |u|+a, the greatest-step call shall name the highest place': no higher place is as fast
 pub record Fastest (s : Reach) (time place : ℕ) : Type 0 where
   pub least : 1 ≤ time
   pub most : time ≤ 1_000
   pub meets : (i : ℕ) → i ≤ cells s + 1 → time * placeSpeed s i ≤ 1_000 * s .cellLength
   pub greatest : (t : ℕ) → t ≤ 1_000 → ((i : ℕ) → i ≤ cells s + 1 → t * placeSpeed s i ≤ 1_000 * s .cellLength) → t ≤ time
+  pub within : place ≤ cells s + 1
   pub fastest : (i : ℕ) → i ≤ cells s + 1 → placeSpeed s i ≤ placeSpeed s place
-  pub lowest : (i : ℕ) → i < place → placeSpeed s i < placeSpeed s place
+  pub highest : (i : ℕ) → place < i → i ≤ cells s + 1 → placeSpeed s i < placeSpeed s place
+  pub left-unfed : (leftBoundary (s .held .boundaries) .kind ≡ 2 → ⊥) → placeSpeed s 0 ≡ 0
+  pub right-unfed : (rightBoundary (s .held .boundaries) .kind ≡ 2 → ⊥) → placeSpeed s (cells s + 1) ≡ 0
   -- a reach that is all dry, with no fed end
   pub dry : ((i : ℕ) → depthAt s i ≡ 0) → (leftBoundary (s .held .boundaries) .kind ≡ 2 → ⊥) → (rightBoundary (s .held .boundaries) .kind ≡ 2 → ⊥)
-      → (place ≡ 0) × (time ≡ 1_000)
+      → (place ≡ cells s + 1) × (time ≡ 1_000)
 
 abbrev pub GreatestStep : Type 0
 GreatestStep =
     (κs : Lfts 7) (l : Lent) (X : ℕ) (k : Held) (r : Greatest) → GreatestEnsures κs l X k r → r .refusal ≡ 0 →
     Fastest (given l X k) (r .time) (r .place)
+
+-- and no other answer is right: of two that `Fastest` allows each is the other
+abbrev pub OneFastest : Type 0
+OneFastest = (s : Reach) (time time' place place' : ℕ) → Fastest s time place → Fastest s time' place' → (time ≡ time') × (place ≡ place')
 
 -- the record that an accepted call leaves stands grounds 4 to 9, whatever pair that fits the next call is given: no call of ours is the cause that the next is refused by them
 abbrev pub Stands : Reach → Type 0

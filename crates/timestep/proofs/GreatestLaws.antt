@@ -1,5 +1,5 @@
 -- Laws of the greatest-step call: what a sound record owes its functions, and what its answer is. Assumes nothing.
-use mathlib.Core.Path.{_≡_, refl, sym, ap, _∙_}
+use mathlib.Core.Path.{_≡_, refl, sym, ap, subst, _∙_}
 use mathlib.Core.Bool.{Bool, true, false, cond}
 use Prim.Native.Nat.{ℕ, zero, suc, _+_, _-_, _≤_, _<_}
 use native.Mathlib.Omega.{arith}
@@ -9,7 +9,7 @@ use lib.IntN.{ℤ}
 use lib.ListN.{length}
 use Rattle.cfl.specs.Cfl.{signalSpeed, speedAt, greatestStep, fastestPlace}
 use Rattle.cfl.specs.Ranges.{FlowColumns, stepFor}
-use Rattle.cfl.proofs.CflLaws.{signal-speed-most, greatest-step-is, greatest-step-most, greatest-step-some, all-dry}
+use Rattle.cfl.proofs.CflLaws.{signal-speed-most, speed-of-right, greatest-step-is, greatest-step-most, greatest-step-some, all-dry}
 use Rattle.numbers.proofs.SearchLaws.{by-less}
 use Rattle.flux.specs.Interface.{Side}
 use Rattle.flux.specs.Limits.{timeStepMost, velocityMost}
@@ -109,9 +109,20 @@ dry-speed s dry left right (suc i) = go (ltb i (length (s .depth)))
     go true = rw (dry i) (signal-dry (dischargeAt s i))
     go false = speed-other Right (rightBoundary (s .held .boundaries)) (cellSide s (cells s - 1)) right
 
--- a reach that is all dry, with no fed boundary, answers 1,000 at place 0
+-- a boundary that is not fed counts as 0: at place 0, and at place n+1 of a record with a depth for each cell
+pub left-unfed : (s : Reach) → (leftBoundary (s .held .boundaries) .kind ≡ fed → ⊥) → placeSpeed s 0 ≡ 0
+unfolding placeSpeed speedAt leftSpeed
+left-unfed s k = speed-other Left (leftBoundary (s .held .boundaries)) (cellSide s 0) k
+
+pub right-unfed : (s : Reach) → length (s .depth) ≡ cells s → (rightBoundary (s .held .boundaries) .kind ≡ fed → ⊥) → placeSpeed s (cells s + 1) ≡ 0
+unfolding placeSpeed rightSpeed
+right-unfed s n k =
+    subst (λ m. speedAt (s .depth) (s .discharge) (leftSpeed s) (rightSpeed s) (m + 1) ≡ 0) n
+    (speed-of-right (s .depth) (s .discharge) (leftSpeed s) (rightSpeed s) ∙ speed-other Right (rightBoundary (s .held .boundaries)) (cellSide s (cells s - 1)) k)
+
+-- a reach that is all dry, with no fed boundary, answers 1,000 at place n+1
 pub dry-reach : (s : Reach) → ((i : ℕ) → depthAt s i ≡ 0) → (leftBoundary (s .held .boundaries) .kind ≡ fed → ⊥) → (rightBoundary (s .held .boundaries) .kind ≡ fed → ⊥)
-    → (greatestPlace s ≡ 0) × (greatestTime s ≡ timeStepMost)
+    → (greatestPlace s ≡ cells s + 1) × (greatestTime s ≡ timeStepMost)
 unfolding greatestPlace greatestTime
 dry-reach s dry left right =
     all-dry (placeSpeed s) (cells s + 1) (s .cellLength) (λ i l. dry-speed s dry left right i)

@@ -1,4 +1,4 @@
--- Document 01, 'The greatest step'.
+-- Document 01, 'The greatest step'; document 02, point 2.
 use mathlib.Core.Bool.{cond}
 use mathlib.Core.List.{List}
 use Prim.Native.Nat.{ℕ, _+_, _-_}
@@ -35,7 +35,7 @@ placeSpeed s = speedAt (s .depth) (s .discharge) (leftSpeed s) (rightSpeed s)
 unfoldable pub greatestTime : Reach → ℕ
 greatestTime s = greatestStep (placeSpeed s) (cells s + 1) (s .cellLength)
 
--- the place of the greatest |u|+a, the lowest among equals
+-- the place of the greatest |u|+a, the highest among equals
 unfoldable pub greatestPlace : Reach → ℕ
 greatestPlace s = fastestPlace (placeSpeed s) (cells s + 1)
 

@@ -1,8 +1,10 @@
--- Document 01, 'A water step' and 'The greatest step': CFL met with equality. X 1,000 mm, so that t·(|u|+a) may be 1,000,000.
+-- Document 01, 'A water step' and 'The greatest step': CFL met with equality. X 1,000 mm, so that t·(|u|+a) may be 1,000,000. Document 02, point 2: equal places.
 use mathlib.Core.Path.{_≡_}
-use mathlib.Core.List.{[], _∷_}
-use Prim.Native.Nat.{ℕ}
+use mathlib.Core.List.{List, [], _∷_}
+use Prim.Native.Nat.{ℕ, _+_}
 use lib.IntN.{ℤ, pos, negℤ}
+use lib.ListN.{length}
+use Rattle.numbers.specs.Index.{tabulate}
 use Rattle.flux.specs.Wave.{waveSpeed}
 use Rattle.reach.specs.Reach.{Reach, noBoundary, heldWith}
 use Rattle.outlet.specs.Outlets.{noOutlets}
@@ -24,10 +26,26 @@ oneCell h q left right = record {
   held = heldWith (left ∷ right ∷ []) emptyLedger noOutlets;
 }
 
+-- water at rest over a level bed
+abbrev pub atRest : (depths : List ℕ) (left right : Boundary) → Reach
+atRest depths left right = record {
+  bed = tabulate (length depths) (λ i. pos 0);
+  depth = depths;
+  discharge = tabulate (length depths) (λ i. pos 0);
+  mass = tabulate (length depths) (λ i. 0);
+  base = depths;
+  carried = tabulate (length depths + 1) (λ i. pos 0);
+  cellLength = 1_000;
+  held = heldWith (left ∷ right ∷ []) emptyLedger noOutlets;
+}
+
+abbrev pub openBoundary : Boundary
+openBoundary = record { kind = 1; reserved = 0; depth = 0; concentration = 0; discharge = pos 0 }
+
 abbrev pub fedStill : Boundary
 fedStill = record { kind = 2; reserved = 0; depth = 272_000; concentration = 0; discharge = pos 0 }
 
--- between walls, at rest; at −500 mm/s; a cell beside a fed boundary at its left; at its right; and beside an open one at its left
+-- between walls, at rest; at −500 mm/s; a cell beside a fed boundary at its left; at its right; and beside an open one at its right
 abbrev pub still : Reach
 still = oneCell 272_000 (pos 0) noBoundary noBoundary
 
@@ -37,15 +55,28 @@ flowing = oneCell 272_000 (negℤ (pos 136_000_000)) noBoundary noBoundary
 abbrev pub fedDeep : (h : ℕ) → Reach
 fedDeep h = oneCell h (pos 0) fedStill noBoundary
 
-abbrev pub fedRight : Reach
-fedRight = oneCell 100_000 (pos 0) noBoundary fedStill
+abbrev pub fedRight : (h : ℕ) → Reach
+fedRight h = oneCell h (pos 0) noBoundary fedStill
 
-abbrev pub openLeft : Reach
-openLeft = oneCell 272_000 (pos 0) (record { kind = 1; reserved = 0; depth = 0; concentration = 0; discharge = pos 0 }) noBoundary
+abbrev pub openRight : Reach
+openRight = oneCell 272_000 (pos 0) noBoundary openBoundary
 
 -- beside a fed boundary of the same wave speed that flows away at 500 mm/s
 abbrev pub fedFlowing : Reach
 fedFlowing = oneCell 100_000 (pos 0) (record { kind = 2; reserved = 0; depth = 272_000; concentration = 0; discharge = negℤ (pos 136_000_000) }) noBoundary
+
+-- two equal cells between slower ones; slower cells between equal fed boundaries; all dry, of one cell and of three
+abbrev pub equalCells : Reach
+equalCells = atRest (100_000 ∷ 272_000 ∷ 272_000 ∷ 100_000 ∷ []) noBoundary noBoundary
+
+abbrev pub fedBoth : Reach
+fedBoth = atRest (100_000 ∷ 100_000 ∷ 100_000 ∷ []) fedStill fedStill
+
+abbrev pub dryCell : Reach
+dryCell = atRest (0 ∷ []) noBoundary openBoundary
+
+abbrev pub dryCells : Reach
+dryCells = atRest (0 ∷ 0 ∷ 0 ∷ []) noBoundary openBoundary
 
 -- a pit between walls: the water in the middle is below both banks, so that its depths reduced at either side are 0
 abbrev pub pit : Reach
@@ -76,16 +107,22 @@ pub record CflWorked : Type 0 where
   pub fed-500 : step (fedDeep 100_000) 500 .refusal ≡ 0
   pub fed-501 : step (fedDeep 100_000) 501 .refusal ≡ 11
   pub fed-greatest : greatest (fedDeep 100_000) ≡ record { refusal = 0; held = fedDeep 100_000 .held; time = 500; place = 0 }
-  -- of two equals the lower place
-  pub equal-greatest : greatest (fedDeep 272_000) ≡ record { refusal = 0; held = fedDeep 272_000 .held; time = 500; place = 0 }
   -- at the right too: place 2 of one cell
-  pub right-500 : step fedRight 500 .refusal ≡ 0
-  pub right-501 : step fedRight 501 .refusal ≡ 11
-  pub right-greatest : greatest fedRight ≡ record { refusal = 0; held = fedRight .held; time = 500; place = 2 }
-  -- an open boundary does not count: it has the |u|+a of its cell, and would be the lower place
-  pub open-500 : step openLeft 500 .refusal ≡ 0
-  pub open-501 : step openLeft 501 .refusal ≡ 11
-  pub open-greatest : greatest openLeft ≡ record { refusal = 0; held = openLeft .held; time = 500; place = 1 }
+  pub right-500 : step (fedRight 100_000) 500 .refusal ≡ 0
+  pub right-501 : step (fedRight 100_000) 501 .refusal ≡ 11
+  pub right-greatest : greatest (fedRight 100_000) ≡ record { refusal = 0; held = fedRight 100_000 .held; time = 500; place = 2 }
+  -- among equals the highest place: the cell beside a fed boundary at its left, the second of two cells, a fed boundary at the right
+  pub equal-left : greatest (fedDeep 272_000) ≡ record { refusal = 0; held = fedDeep 272_000 .held; time = 500; place = 1 }
+  pub equal-cells : greatest equalCells ≡ record { refusal = 0; held = equalCells .held; time = 500; place = 3 }
+  pub equal-right : greatest (fedRight 272_000) ≡ record { refusal = 0; held = fedRight 272_000 .held; time = 500; place = 2 }
+  pub equal-boundaries : greatest fedBoth ≡ record { refusal = 0; held = fedBoth .held; time = 500; place = 4 }
+  -- all dry and no fed boundary: every place has 0, and the highest is n+1
+  pub dry-cell : greatest dryCell ≡ record { refusal = 0; held = dryCell .held; time = 1_000; place = 2 }
+  pub dry-cells : greatest dryCells ≡ record { refusal = 0; held = dryCells .held; time = 1_000; place = 4 }
+  -- an open boundary does not count: it has the |u|+a of its cell, and would be the higher place; nor does a wall (`still-greatest`)
+  pub open-500 : step openRight 500 .refusal ≡ 0
+  pub open-501 : step openRight 501 .refusal ≡ 11
+  pub open-greatest : greatest openRight ≡ record { refusal = 0; held = openRight .held; time = 500; place = 1 }
   -- |u| of a fed boundary counts: 400·(500 + 2,000) = 1,000,000; at rest 500 would pass
   pub fed-flowing-400 : step fedFlowing 400 .refusal ≡ 0
   pub fed-flowing-401 : step fedFlowing 401 .refusal ≡ 11

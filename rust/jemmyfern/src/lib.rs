@@ -315,7 +315,8 @@ pub struct Stepped {
 pub struct Greatest {
     /// ms, 1..1,000
     pub time: u64,
-    /// where the water is fastest: 0 the left boundary, 1..n the cells, n + 1 the right boundary
+    /// where the water is fastest: 0 the left boundary, 1..n the cells, n + 1 the right boundary. The highest place among equals; a boundary
+    /// that is not fed counts as 0, so that it is n + 1 where all cells are dry and no boundary is fed
     pub place: usize,
 }
 
@@ -452,7 +453,7 @@ impl<'a> Reach<'a> {
         Ok(())
     }
 
-    /// The greatest time step that the record allows now.
+    /// The greatest time step that the record allows now, and where the water is fastest: the highest place among equals.
     pub fn greatest_step(&self) -> Result<Greatest, Refusal> {
         let a = call!(jemmyfern_greatest_step, self, as_ptr, as_ptr);
         refused(a.refusal)?;

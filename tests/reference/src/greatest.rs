@@ -40,8 +40,9 @@ pub fn greatest_step(
     };
     let mut fastest = end_reach(&ends[0]);
     let mut look = |place: usize, reach: u64| {
-        // "among equals the lowest place"
-        if reach > fastest {
+        // "Among equal greatest values of |u|+a, the greatest-step call shall name the highest
+        // place instead of the lowest": places come in rising order, so an equal one replaces
+        if reach >= fastest {
             fastest = reach;
             answer.place = place;
         }

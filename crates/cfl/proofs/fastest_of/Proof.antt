@@ -78,10 +78,10 @@ add-t18 : tie.Need-add-t18 Inv-loop μ-loop
 add-t18 c = omega arith
 
 returns : tie.Need-returns Inv-loop μ-loop
-returns c = fastest-raised _ _ _ _ _ (passed (c .before)) (sym (speed-of-right _ _ _ _)) (c .if2 .taken)
+returns c = fastest-raised _ _ _ _ _ (passed (c .before)) (sym (speed-of-right _ _ _ _)) (omega (arith, c .if2 .taken))
 
 returns-2 : tie.Need-returns-2 Inv-loop μ-loop
-returns-2 c = fastest-kept _ _ _ _ _ (passed (c .before)) (sym (speed-of-right _ _ _ _)) (c .if2 .left)
+returns-2 c = fastest-kept _ _ _ _ _ (passed (c .before)) (sym (speed-of-right _ _ _ _)) (omega (arith, c .if2 .left))
 
 pub fastest-of-spec : {M : Type 1} → statement M
 fastest-of-spec =

@@ -102,6 +102,27 @@ fn the_longest_step_is_not_set_by_slow_water() {
     }
 }
 
+/// Still water a metre deep runs at 3835 mm/s, a fed boundary's as a cell's.
+#[test]
+fn among_equals_the_highest_place_is_named() {
+    let fed = Boundary::fed(1_000_000, 0, 0);
+    let cases: [(&[usize], [Boundary; 2], &str); 6] = [
+        (&[0, 1, 2], [Boundary::WALL; 2], "cell 2"),
+        (&[0, 1], [Boundary::open(0); 2], "cell 1"),
+        (&[0], [fed, Boundary::WALL], "cell 0"),
+        (&[0, 2], [Boundary::WALL, fed], "the right boundary"),
+        (&[], [fed, fed], "the right boundary"),
+        (&[], [fed, Boundary::WALL], "the left boundary"),
+    ];
+    for (deep, boundaries, place) in cases {
+        let sheet = sheet(|r| {
+            deep.iter().for_each(|&i| r.depth[i] = 1_000_000);
+            r.boundaries = boundaries;
+        });
+        assert_eq!(greatest_step(&sheet), format!("260 ms, set by {place}"));
+    }
+}
+
 #[test]
 fn other_orders_of_the_columns_open() {
     let mut sheet = base().draft_sheet();

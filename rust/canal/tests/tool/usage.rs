@@ -19,6 +19,7 @@ fn help_is_no_failure() {
         assert_eq!(answer.status, 0);
         assert!(answer.errors.is_empty());
         assert!(answer.text().contains("canal run SHEET --for TIME"));
+        assert!(answer.text().contains("among equals the highest place"));
         assert!(answer.text().lines().all(|l| l.len() <= 90));
     }
     assert!(call(&["--version"]).text().starts_with("canal "));

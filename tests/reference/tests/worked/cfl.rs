@@ -16,10 +16,27 @@ fn one_cell(h: u64, q: i64, ends: [End; 2]) -> Record {
     }
 }
 
+/// Cells of these depths at rest on a flat bottom.
+fn at_rest(depths: &[u64], ends: [End; 2]) -> Record {
+    let cells: Vec<_> = depths.iter().map(|&h| (0, h, 0, 0, h)).collect();
+    Record {
+        columns: columns(&cells, &vec![0; depths.len() + 1]),
+        outlets: vec![],
+        x: 1_000,
+        ends,
+        book: Book::default(),
+    }
+}
+
 /// t passes and the next is 11, and the greatest step is t at this place.
 fn equality(record: &Record, t: u16, place: u16) {
     assert_eq!(step(&mut record.clone(), t).refusal, 0);
     assert_eq!(step(&mut record.clone(), t + 1).refusal, 11);
+    greatest(record, t, place);
+}
+
+/// The greatest step is t at this place.
+fn greatest(record: &Record, t: u16, place: u16) {
     let greatest = greatest_step(
         &record.columns,
         &record.outlets,
@@ -44,14 +61,31 @@ fn cfl_at_equality() {
     equality(&one_cell(272_000, 0, [WALL, WALL]), 500, 1);
     equality(&one_cell(272_000, -136_000_000, [WALL, WALL]), 400, 1);
     equality(&one_cell(100_000, 0, [fed, WALL]), 500, 0);
-    equality(&one_cell(272_000, 0, [fed, WALL]), 500, 0);
+    equality(&one_cell(272_000, 0, [fed, WALL]), 500, 1);
     equality(&one_cell(100_000, 0, [WALL, fed]), 500, 2);
+    equality(&one_cell(272_000, 0, [WALL, fed]), 500, 2);
     equality(&one_cell(272_000, 0, [open, WALL]), 500, 1);
+    equality(&one_cell(272_000, 0, [WALL, open]), 500, 1);
     let flowing = End {
         discharge: -136_000_000,
         ..fed
     };
     equality(&one_cell(100_000, 0, [flowing, WALL]), 400, 0);
+    let pair = [100_000, 272_000, 272_000, 100_000];
+    equality(&at_rest(&pair, [WALL, WALL]), 500, 3);
+    equality(&at_rest(&[100_000; 3], [fed, fed]), 500, 4);
+}
+
+/// Every place counts as 0, so the last of them is named; no step within 1..1,000 breaks CFL.
+#[test]
+fn cfl_of_a_dry_reach() {
+    let open = End { kind: 1, ..WALL };
+    for (n, place) in [(1, 2), (3, 4)] {
+        let dry = at_rest(&vec![0; n], [WALL, open]);
+        assert_eq!(step(&mut dry.clone(), 1_000).refusal, 0);
+        assert_eq!(step(&mut dry.clone(), 1_001).refusal, 10);
+        greatest(&dry, 1_000, place);
+    }
 }
 
 /// Both depths of the middle cell are reduced to 0 at its banks; the whole depth counts.
