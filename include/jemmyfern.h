@@ -183,8 +183,8 @@ typedef struct {
     jemmyfern_boundaries boundaries;
     jemmyfern_ledger ledger;
     uint64_t time; /* ms, 1 to 1,000 */
-    /* where the water is fastest: 0 the left boundary, 1..n the cells, n+1 the right boundary. The highest place among equals; a boundary that is
-     * not fed counts as 0, so that it is n+1 where all cells are dry and no boundary is fed */
+    /* where the water is fastest: 0 the left boundary, 1..n the cells, n+1 the right boundary. The highest place among equals. A boundary that is
+     * not fed counts as 0, so that the place is n+1 where all cells are dry and no boundary is fed */
     size_t place;
 } jemmyfern_greatest;
 

@@ -1,4 +1,4 @@
--- Document 01, 'A water step', CFL, and 'The greatest step'. Speeds in mm/s, t in ms, X in mm.
+-- Document 01, 'A water step', CFL, and 'The greatest step'; document 02, point 2. Speeds in mm/s, t in ms, X in mm.
 use mathlib.Core.List.{List}
 use mathlib.Core.Bool.{Bool, cond}
 use Prim.Native.Nat.{ℕ, zero, suc, _+_, _*_}
@@ -29,7 +29,7 @@ meetsCfl speed k X t = allBelow (suc k) (λ i. leb (t * speed i) (1_000 * X))
 unfoldable pub greatestStep : (speed : ℕ → ℕ) (k X : ℕ) → ℕ
 greatestStep speed k X = climb (λ t. meetsCfl speed k X (suc t)) timeStepMost 0
 
--- the place of the greatest |u|+a among the places 0..k, the highest among equals (document 02, point 2)
+-- the place of the greatest |u|+a among the places 0..k, the highest among equals
 unfoldable pub fastestPlace : (speed : ℕ → ℕ) (k : ℕ) → ℕ
 fastestPlace speed zero = 0
 fastestPlace speed (suc k) = cond (leb (speed (fastestPlace speed k)) (speed (suc k))) (suc k) (fastestPlace speed k)

@@ -20,16 +20,17 @@ use Rattle.numbers.proofs.SignedLaws.{from-cross, minus-cross, pos-cross}
 use Rattle.numbers.proofs.RootLaws.{square-root-low, square-root-greatest}
 use Rattle.flux.specs.Wave.{waveSpeed}
 use Rattle.flux.proofs.CrossingLaws.{lower-le-upper, water-flux-dry, momentum-flux-dry, still-thrust-dry}
-use Rattle.cfl.specs.Cfl.{meetsCfl}
+use Rattle.cfl.specs.Cfl.{signalSpeed, meetsCfl}
 use Rattle.cfl.proofs.CflLaws.{fastest-within, fastest-greatest, fastest-highest, greatest-step-meets, greatest-step-greatest}
 use Rattle.outlet.specs.Outlets.{outletAt, fromCell, eachOutlet}
 use Rattle.outlet.specs.declared.Outlets.{Outlets}
-use Rattle.reach.specs.Reach.{Reach, cells, massAt, baseAt, carriedAt}
+use Rattle.reach.specs.Reach.{Reach, cells, massAt, baseAt, carriedAt, leftBoundary, rightBoundary}
 use Rattle.reach.specs.Grounds.{firstRefusal, numberOf, boundariesFit, carriedFits, recordGrounds}
 use Rattle.reach.proofs.OutletLaws.{none-fit, none-total}
 use Rattle.reach.specs.Outcome.{Outcome}
 use Rattle.reach.specs.Parts.{outflow, drawnFrom}
 use Rattle.reach.specs.declared.boundary.Boundary.{Boundary}
+use Rattle.reach.specs.declared.boundary.BoundaryPlace.the-variants.{Left, Right}
 use Rattle.reach.specs.declared.refusal.Check.{Check}
 use Rattle.reach.specs.declared.refusal.Check.the-variants.{Pass}
 use Rattle.reach.proofs.PartsLaws.{outflow-is}
@@ -38,9 +39,9 @@ use Rattle.mass.specs.Transport.{rightwards, leftwards, outletShare}
 use Rattle.mass.proofs.TransportLaws.{right-share-floor, left-share-floor, outlet-share-at}
 use Rattle.transport.specs.Calls.{massColumnsOf, afterTransport, transport}
 use Rattle.transport.proofs.CallsLaws.{emptied-at, by-transport, stands-again, transport-is, left-by-setting, left-by-transport}
-use Rattle.timestep.specs.GreatestStep.{placeSpeed, greatest, greatestTime, greatestPlace}
+use Rattle.timestep.specs.GreatestStep.{leftSpeed, rightSpeed, placeSpeed, greatest, greatestTime, greatestPlace}
 use Rattle.timestep.specs.declared.GreatestAnswer.{GreatestAnswer}
-use Rattle.timestep.proofs.GreatestLaws.{time-in-range, left-unfed, right-unfed, dry-reach}
+use Rattle.timestep.proofs.GreatestLaws.{time-in-range, place-left, place-cell, place-right, boundary-fed, speed-other, dry-reach}
 use Rattle.water.specs.Water.{available, wantsFrom, draws, drawOf, newDepth, undrawnDepth}
 use Rattle.water.specs.Sides.{cellSide}
 use Rattle.water.specs.Ranges.{granted}
@@ -52,7 +53,7 @@ use Rattle.sheet.proofs.OpeningLaws.{opened-stands, left-by-opening}
 use Rattle.writing.specs.Writing.{noneDrawn}
 use Rattle.jemmyfern_c.proofs.Functions.{given}
 use Rattle.demands.specs.Demand1.{First}
-use Rattle.demands.specs.Model.{Amounts, Drawing, WithNoOutlet, NoGrainKept, Fastest, GreatestStep, OneFastest, Stands, StandsAgain}
+use Rattle.demands.specs.Model.{Amounts, Drawing, WithNoOutlet, NoGrainKept, PlaceSpeeds, Fastest, GreatestStep, OneFastest, Stands, StandsAgain}
 use Rattle.demands.proofs.Demand1Laws.{first}
 use Rattle.demands.proofs.Demand2Laws.{transported-count, lentBy, greatest-stood, greatest-is}
 
@@ -188,6 +189,20 @@ each-meets : (s : Reach) (t : ℕ) → ((i : ℕ) → i ≤ cells s + 1 → t * 
 unfolding meetsCfl
 each-meets s t f = all-below (λ j. leb (t * placeSpeed s j) (1_000 * s .cellLength)) (suc (cells s + 1)) (λ i l. le-leb _ _ (f i (omega (arith, l))))
 
+place-speeds : (s : Reach) → Sound s → PlaceSpeeds s
+unfolding leftSpeed rightSpeed signalSpeed
+place-speeds s b =
+    let left = leftBoundary (s .held .boundaries) in
+    let right = rightBoundary (s .held .boundaries) in
+    let last = cellSide s (cells s - 1) in
+    record {
+      left-fed = λ k. place-left s ∙ boundary-fed Left left (cellSide s 0) k;
+      left-unfed = λ k. place-left s ∙ speed-other Left left (cellSide s 0) k;
+      cell = λ i l. place-cell s (b .depths) i l;
+      right-fed = λ k. place-right s (b .depths) ∙ boundary-fed Right right last k;
+      right-unfed = λ k. place-right s (b .depths) ∙ speed-other Right right last k;
+    }
+
 fastest : (s : Reach) → Sound s → Fastest s (greatestTime s) (greatestPlace s)
 unfolding greatestTime greatestPlace
 fastest s b =
@@ -201,8 +216,6 @@ fastest s b =
       fastest = λ i l. fastest-greatest speed n i l;
       within = omega (arith, fastest-within speed n);
       highest = λ i l m. fastest-highest speed n i l m;
-      left-unfed = left-unfed s;
-      right-unfed = right-unfed s (b .depths);
       dry = λ d left right. dry-reach s d left right;
     }
 
@@ -211,7 +224,8 @@ greatest-step κs l X h r k z =
     let s = given l X h in
     let zero = sym (ap (λ (a : GreatestAnswer). a .refusal) k) ∙ z in
     let same = k ∙ greatest-is s zero in
-    subst (λ (a : GreatestAnswer). Fastest s (a .time) (a .place)) (sym same) (fastest s (sound s (h .boundaries) (greatest-stood s zero)))
+    let k-sound = sound s (h .boundaries) (greatest-stood s zero) in
+    (place-speeds s k-sound, subst (λ (a : GreatestAnswer). Fastest s (a .time) (a .place)) (sym same) (fastest s k-sound))
 
 -- a lower place would be faster than the higher, and the higher at least as fast
 not-lower : (s : Reach) (time time' place place' : ℕ) → Fastest s time place → Fastest s time' place' → place' ≤ place

@@ -1,4 +1,4 @@
--- Document 01, sentences that the definitions do not show as they stand: what holds of the amounts and of the calls that demand 2 names. (Names as in Demand1.antt.)
+-- Document 01 and document 02, sentences that the definitions do not show as they stand: what holds of the amounts and of the calls that demand 2 names. (Names as in Demand1.antt.)
 use mathlib.Core.Path.{_≡_}
 use mathlib.Core.Bool.{true, cond, _&&_}
 use mathlib.Core.List.{List, [], _∷_}
@@ -108,8 +108,21 @@ NoGrainKept =
     positive (carriedAt s (i + 1)) + positive (negℤ (carriedAt s i)) + sum (drawnFrom (s .held .outlets) i) ≡ baseAt s i →
     getD (e .mass) i 0 ≡ rightwards (massColumnsOf s) i + leftwards (massColumnsOf s) (i + 1)
 
--- 'The call answers the greatest t in 1..1,000 that meets CFL, and the place of the greatest |u|+a: 0 left end, 1..n the cells, n+1 right end; an end that is not fed counts as 0'.
--- Document 02, point 2: 'Among equal greatest values of |u|+a, the greatest-step call shall name the highest place': no higher place is as fast
+-- |u|+a of a depth with a discharge
+abbrev pub speedOf : (h : ℕ) (q : ℤ) → ℕ
+speedOf h q = natAbs (velocity h q) + waveSpeed h
+
+-- the places of a record: '0 left end, 1..n the cells, n+1 right end; an end that is not fed counts as 0'
+pub record PlaceSpeeds (s : Reach) : Type 0 where
+  pub left-fed : leftBoundary (s .held .boundaries) .kind ≡ 2 → placeSpeed s 0 ≡ speedOf (leftBoundary (s .held .boundaries) .depth) (leftBoundary (s .held .boundaries) .discharge)
+  pub left-unfed : (leftBoundary (s .held .boundaries) .kind ≡ 2 → ⊥) → placeSpeed s 0 ≡ 0
+  pub cell : (i : ℕ) → i < cells s → placeSpeed s (i + 1) ≡ speedOf (depthAt s i) (dischargeAt s i)
+  pub right-fed : rightBoundary (s .held .boundaries) .kind ≡ 2
+      → placeSpeed s (cells s + 1) ≡ speedOf (rightBoundary (s .held .boundaries) .depth) (rightBoundary (s .held .boundaries) .discharge)
+  pub right-unfed : (rightBoundary (s .held .boundaries) .kind ≡ 2 → ⊥) → placeSpeed s (cells s + 1) ≡ 0
+
+-- 'The call answers the greatest t in 1..1,000 that meets CFL, and the place of the greatest |u|+a'; document 02, point 2: 'Among equal greatest values of |u|+a, the greatest-step call
+-- shall name the highest place': no higher place is as fast
 pub record Fastest (s : Reach) (time place : ℕ) : Type 0 where
   pub least : 1 ≤ time
   pub most : time ≤ 1_000
@@ -118,8 +131,6 @@ pub record Fastest (s : Reach) (time place : ℕ) : Type 0 where
   pub within : place ≤ cells s + 1
   pub fastest : (i : ℕ) → i ≤ cells s + 1 → placeSpeed s i ≤ placeSpeed s place
   pub highest : (i : ℕ) → place < i → i ≤ cells s + 1 → placeSpeed s i < placeSpeed s place
-  pub left-unfed : (leftBoundary (s .held .boundaries) .kind ≡ 2 → ⊥) → placeSpeed s 0 ≡ 0
-  pub right-unfed : (rightBoundary (s .held .boundaries) .kind ≡ 2 → ⊥) → placeSpeed s (cells s + 1) ≡ 0
   -- a reach that is all dry, with no fed end
   pub dry : ((i : ℕ) → depthAt s i ≡ 0) → (leftBoundary (s .held .boundaries) .kind ≡ 2 → ⊥) → (rightBoundary (s .held .boundaries) .kind ≡ 2 → ⊥)
       → (place ≡ cells s + 1) × (time ≡ 1_000)
@@ -127,9 +138,9 @@ pub record Fastest (s : Reach) (time place : ℕ) : Type 0 where
 abbrev pub GreatestStep : Type 0
 GreatestStep =
     (κs : Lfts 7) (l : Lent) (X : ℕ) (k : Held) (r : Greatest) → GreatestEnsures κs l X k r → r .refusal ≡ 0 →
-    Fastest (given l X k) (r .time) (r .place)
+    let s = given l X k in PlaceSpeeds s × Fastest s (r .time) (r .place)
 
--- and no other answer is right: of two that `Fastest` allows each is the other
+-- and no other answer is right: two that `Fastest` allows are the same
 abbrev pub OneFastest : Type 0
 OneFastest = (s : Reach) (time time' place place' : ℕ) → Fastest s time place → Fastest s time' place' → (time ≡ time') × (place ≡ place')
 

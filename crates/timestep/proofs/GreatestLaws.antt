@@ -9,7 +9,7 @@ use lib.IntN.{ℤ}
 use lib.ListN.{length}
 use Rattle.cfl.specs.Cfl.{signalSpeed, speedAt, greatestStep, fastestPlace}
 use Rattle.cfl.specs.Ranges.{FlowColumns, stepFor}
-use Rattle.cfl.proofs.CflLaws.{signal-speed-most, speed-of-right, greatest-step-is, greatest-step-most, greatest-step-some, all-dry}
+use Rattle.cfl.proofs.CflLaws.{signal-speed-most, speed-of-cell, speed-of-right, greatest-step-is, greatest-step-most, greatest-step-some, all-dry}
 use Rattle.numbers.proofs.SearchLaws.{by-less}
 use Rattle.flux.specs.Interface.{Side}
 use Rattle.flux.specs.Limits.{timeStepMost, velocityMost}
@@ -49,7 +49,30 @@ pub stopped : (s : Reach) (n : ℕ) → firstRefusal (recordGrounds s (s .held .
 unfolding greatest
 stopped s n e = ap (λ (k : Check). greatestBy k s) e
 
--- the answer from what the functions find
+-- ---- |u|+a at each place
+
+pub place-left : (s : Reach) → placeSpeed s 0 ≡ leftSpeed s
+unfolding placeSpeed speedAt
+place-left s = refl
+
+pub place-cell : (s : Reach) → length (s .depth) ≡ cells s → (i : ℕ) → i < cells s → placeSpeed s (i + 1) ≡ signalSpeed (depthAt s i) (dischargeAt s i)
+unfolding placeSpeed
+place-cell s n i l = speed-of-cell (s .depth) (s .discharge) (leftSpeed s) (rightSpeed s) i (omega (arith, n))
+
+pub place-right : (s : Reach) → length (s .depth) ≡ cells s → placeSpeed s (cells s + 1) ≡ rightSpeed s
+unfolding placeSpeed
+place-right s n =
+    subst (λ m. speedAt (s .depth) (s .discharge) (leftSpeed s) (rightSpeed s) (m + 1) ≡ rightSpeed s) n
+    (speed-of-right (s .depth) (s .discharge) (leftSpeed s) (rightSpeed s))
+
+-- a fed boundary has that of its own water, one that is not fed counts as 0
+pub boundary-fed : (p : BoundaryPlace) (e : Boundary) (c : Side) → e .kind ≡ fed → boundarySpeed p e c ≡ signalSpeed (e .depth) (e .discharge)
+unfolding boundarySpeed boundarySide sideSpeed signalSpeed
+boundary-fed p e c k = rw k refl
+
+-- ---- the answer
+
+-- from what the functions find
 pub found : (s : Reach) (left right place speed time : ℕ) → firstRefusal (recordGrounds s (s .held .boundaries)) ≡ Pass
     → left ≡ leftSpeed s → right ≡ rightSpeed s → length (s .depth) ≡ cells s
     → place ≡ fastestPlace (speedAt (s .depth) (s .discharge) left right) (length (s .depth) + 1)
@@ -108,17 +131,6 @@ dry-speed s dry left right (suc i) = go (ltb i (length (s .depth)))
     go : (t : Bool) → cond t (signalSpeed (depthAt s i) (dischargeAt s i)) (rightSpeed s) ≡ 0
     go true = rw (dry i) (signal-dry (dischargeAt s i))
     go false = speed-other Right (rightBoundary (s .held .boundaries)) (cellSide s (cells s - 1)) right
-
--- a boundary that is not fed counts as 0: at place 0, and at place n+1 of a record with a depth for each cell
-pub left-unfed : (s : Reach) → (leftBoundary (s .held .boundaries) .kind ≡ fed → ⊥) → placeSpeed s 0 ≡ 0
-unfolding placeSpeed speedAt leftSpeed
-left-unfed s k = speed-other Left (leftBoundary (s .held .boundaries)) (cellSide s 0) k
-
-pub right-unfed : (s : Reach) → length (s .depth) ≡ cells s → (rightBoundary (s .held .boundaries) .kind ≡ fed → ⊥) → placeSpeed s (cells s + 1) ≡ 0
-unfolding placeSpeed rightSpeed
-right-unfed s n k =
-    subst (λ m. speedAt (s .depth) (s .discharge) (leftSpeed s) (rightSpeed s) (m + 1) ≡ 0) n
-    (speed-of-right (s .depth) (s .discharge) (leftSpeed s) (rightSpeed s) ∙ speed-other Right (rightBoundary (s .held .boundaries)) (cellSide s (cells s - 1)) k)
 
 -- a reach that is all dry, with no fed boundary, answers 1,000 at place n+1
 pub dry-reach : (s : Reach) → ((i : ℕ) → depthAt s i ≡ 0) → (leftBoundary (s .held .boundaries) .kind ≡ fed → ⊥) → (rightBoundary (s .held .boundaries) .kind ≡ fed → ⊥)

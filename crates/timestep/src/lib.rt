@@ -1,4 +1,4 @@
-// The greatest time step that a record allows (document 01, 'The greatest step').
+// The greatest time step that a record allows (document 01, 'The greatest step'; document 02, point 2).
 ghost use mathlib.Core.Path.{_≡_};
 ghost use Prim.Native.Nat.{_*_, _≤_};
 ghost use lib.IntN.{natAbs};
@@ -21,7 +21,7 @@ use water::boundary_state;
 use water::cell_state;
 
 // 0 or the number of the refusal; the boundaries and the ledger as they came; the greatest time step, ms; the place of the greatest
-// |u|+a: 0 the left boundary, 1..n the cells, n+1 the right boundary
+// |u|+a, the highest among equals: 0 the left boundary, 1..n the cells, n+1 the right boundary
 #[repr(C)]
 pub struct GreatestAnswer {
     pub refusal: u32,

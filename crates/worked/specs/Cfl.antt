@@ -61,13 +61,16 @@ fedRight h = oneCell h (pos 0) noBoundary fedStill
 abbrev pub openRight : Reach
 openRight = oneCell 272_000 (pos 0) noBoundary openBoundary
 
--- beside a fed boundary of the same wave speed that flows away at 500 mm/s
+-- beside a fed boundary that flows at 500 mm/s, leftwards at its left, rightwards at its right: away from the cell
 abbrev pub fedFlowing : Reach
 fedFlowing = oneCell 100_000 (pos 0) (record { kind = 2; reserved = 0; depth = 272_000; concentration = 0; discharge = negℤ (pos 136_000_000) }) noBoundary
 
--- two equal cells between slower ones; slower cells between equal fed boundaries; all dry, of one cell and of three
+abbrev pub fedFlowingRight : Reach
+fedFlowingRight = oneCell 100_000 (pos 0) noBoundary (record { kind = 2; reserved = 0; depth = 272_000; concentration = 0; discharge = pos 136_000_000 })
+
+-- two equal cells, one slower before them and two behind; slower cells between equal fed boundaries; all dry, of one cell and of three
 abbrev pub equalCells : Reach
-equalCells = atRest (100_000 ∷ 272_000 ∷ 272_000 ∷ 100_000 ∷ []) noBoundary noBoundary
+equalCells = atRest (100_000 ∷ 272_000 ∷ 272_000 ∷ 100_000 ∷ 100_000 ∷ []) noBoundary noBoundary
 
 abbrev pub fedBoth : Reach
 fedBoth = atRest (100_000 ∷ 100_000 ∷ 100_000 ∷ []) fedStill fedStill
@@ -111,7 +114,8 @@ pub record CflWorked : Type 0 where
   pub right-500 : step (fedRight 100_000) 500 .refusal ≡ 0
   pub right-501 : step (fedRight 100_000) 501 .refusal ≡ 11
   pub right-greatest : greatest (fedRight 100_000) ≡ record { refusal = 0; held = fedRight 100_000 .held; time = 500; place = 2 }
-  -- among equals the highest place: the cell beside a fed boundary at its left, the second of two cells, a fed boundary at the right
+  -- among equals the highest place: the cell beside a fed boundary at its left, the second of two cells (from the left), a fed boundary at the right, the right one
+  -- of two fed boundaries
   pub equal-left : greatest (fedDeep 272_000) ≡ record { refusal = 0; held = fedDeep 272_000 .held; time = 500; place = 1 }
   pub equal-cells : greatest equalCells ≡ record { refusal = 0; held = equalCells .held; time = 500; place = 3 }
   pub equal-right : greatest (fedRight 272_000) ≡ record { refusal = 0; held = fedRight 272_000 .held; time = 500; place = 2 }
@@ -127,6 +131,9 @@ pub record CflWorked : Type 0 where
   pub fed-flowing-400 : step fedFlowing 400 .refusal ≡ 0
   pub fed-flowing-401 : step fedFlowing 401 .refusal ≡ 11
   pub fed-flowing-greatest : greatest fedFlowing ≡ record { refusal = 0; held = fedFlowing .held; time = 400; place = 0 }
+  pub fed-flowing-right-400 : step fedFlowingRight 400 .refusal ≡ 0
+  pub fed-flowing-right-401 : step fedFlowingRight 401 .refusal ≡ 11
+  pub fed-flowing-right-greatest : greatest fedFlowingRight ≡ record { refusal = 0; held = fedFlowingRight .held; time = 400; place = 2 }
   -- the unreduced depth counts: with reduced ones 501 would pass
   pub pit-500 : step pit 500 .refusal ≡ 0
   pub pit-501 : step pit 501 .refusal ≡ 11

@@ -129,7 +129,7 @@ fn all_dry(record: &Record) -> bool {
     record.depth.iter().all(|&h| h == 0) && !record.boundaries.iter().any(fed)
 }
 
-/// Where the water is fastest, the highest place among equals.
+/// A place of the greatest step in words.
 pub fn place(place: usize, cells: usize) -> String {
     match place {
         0 => "the left boundary".into(),

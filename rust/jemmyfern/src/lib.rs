@@ -315,8 +315,8 @@ pub struct Stepped {
 pub struct Greatest {
     /// ms, 1..1,000
     pub time: u64,
-    /// where the water is fastest: 0 the left boundary, 1..n the cells, n + 1 the right boundary. The highest place among equals; a boundary
-    /// that is not fed counts as 0, so that it is n + 1 where all cells are dry and no boundary is fed
+    /// where the water is fastest: 0 the left boundary, 1..n the cells, n + 1 the right boundary. The highest place among equals. A boundary
+    /// that is not fed counts as 0, so that the place is n + 1 where all cells are dry and no boundary is fed
     pub place: usize,
 }
 

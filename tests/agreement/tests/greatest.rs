@@ -1,8 +1,8 @@
-//! The place of the greatest step against the second implementation, on reaches where several places are as fast: 200,000 calls.
+//! The place of the greatest step against the second implementation: 200,000 calls, most of them on reaches where several places are as fast.
 
 use agreement::both::{fresh, same, Call};
 use reference::flux::{wave_speed, Water};
-use reference::random::{end_of_kind, kinds, lend_outlets, record_of, Random, Record};
+use reference::random::{end_of_kind, kinds, lend_outlets, record, Random, Record};
 use reference::record::{End, FASTEST, FED, LEAST_X, MOST_CELLS, MOST_X};
 use std::collections::BTreeMap;
 
@@ -36,10 +36,9 @@ fn discharge(r: &mut Random, depth: u64, speed: u64) -> i64 {
     r.pick(&[size, -size])
 }
 
-/// Any sound record, with carried water and outlets; most of its places are made as fast as the fastest can be at rest, or somewhat faster.
+/// Any sound record, with carried water and outlets: the places that can have one speed, that of the fastest at rest or more, and some are left at rest.
 fn levelled(r: &mut Random, n: usize) -> Record {
-    let kinds = kinds(r);
-    let mut record = record_of(r, n, kinds, true);
+    let mut record = record(r, n);
     lend_outlets(r, &mut record, true);
     let Record { columns, ends, .. } = &mut record;
     let fed = ends.iter_mut().filter(|e| e.kind == FED);
@@ -50,10 +49,12 @@ fn levelled(r: &mut Random, n: usize) -> Record {
     let speed = waves.max().unwrap_or_default() + r.pick(&[0, 1, 400, FASTEST]);
     let spared = r.pick(&[2, 4, 1_000]);
     for (depth, q) in places {
-        *q = 0;
-        if !r.one_in(spared) {
-            *q = discharge(r, depth, speed);
-        }
+        let at_rest = r.one_in(spared);
+        *q = if at_rest {
+            0
+        } else {
+            discharge(r, depth, speed)
+        };
     }
     record
 }
@@ -63,7 +64,7 @@ fn length(r: &mut Random) -> u64 {
     r.pick(&[LEAST_X, 1_000, MOST_X])
 }
 
-/// Water at rest, of two depths at most, at the boundaries too.
+/// Water at rest, of two depths at most, at the boundaries too (a fed one has at least 1).
 fn at_rest(r: &mut Random, n: usize) -> Record {
     let depths = [1 + r.below(4_000_000), r.below(3)];
     let slow = r.pick(&[2, 8]);
@@ -148,5 +149,5 @@ fn among_equals_both_name_the_highest_place() {
         );
     }
     let ties: u64 = TIES.map(tied).iter().sum();
-    assert!(ties >= CALLS / 2, "{ties} of {CALLS}");
+    assert!(ties >= CALLS * 3 / 5, "{ties} of {CALLS}");
 }

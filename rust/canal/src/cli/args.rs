@@ -22,8 +22,8 @@ canal makes sheets of a canal reach, says what they hold, runs and draws them.
   canal help | --version
 
 A file named - is standard input or output. TIME is 90s, 15min, 2h, 1d, 250ms,
-1h30min, or a plain number of seconds. Cells are counted from 0. With the greatest step
-comes where the water is fastest: among equals the highest place.
+1h30min, or a plain number of seconds. Cells are counted from 0. The greatest step is
+told with where the water is fastest: among equals the highest place, furthest right.
 
 A table:
 

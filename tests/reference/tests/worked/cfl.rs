@@ -71,7 +71,12 @@ fn cfl_at_equality() {
         ..fed
     };
     equality(&one_cell(100_000, 0, [flowing, WALL]), 400, 0);
-    let pair = [100_000, 272_000, 272_000, 100_000];
+    let away = End {
+        discharge: 136_000_000,
+        ..fed
+    };
+    equality(&one_cell(100_000, 0, [WALL, away]), 400, 2);
+    let pair = [100_000, 272_000, 272_000, 100_000, 100_000];
     equality(&at_rest(&pair, [WALL, WALL]), 500, 3);
     equality(&at_rest(&[100_000; 3], [fed, fed]), 500, 4);
 }
