@@ -32,6 +32,11 @@ pub speed-fed : (p : BoundaryPlace) (e : Boundary) (c : Side) → e .kind ≡ fe
 unfolding boundarySpeed
 speed-fed p e c k = rw (eq-eqb _ _ k) refl
 
+-- it is that of its own water
+pub boundary-fed : (p : BoundaryPlace) (e : Boundary) (c : Side) → e .kind ≡ fed → boundarySpeed p e c ≡ signalSpeed (e .depth) (e .discharge)
+unfolding boundarySpeed boundarySide sideSpeed signalSpeed
+boundary-fed p e c k = rw k refl
+
 pub speed-other : (p : BoundaryPlace) (e : Boundary) (c : Side) → (e .kind ≡ fed → ⊥) → boundarySpeed p e c ≡ 0
 unfolding boundarySpeed
 speed-other p e c k = rw (ne-eqb _ _ k) refl
@@ -64,11 +69,6 @@ unfolding placeSpeed
 place-right s n =
     subst (λ m. speedAt (s .depth) (s .discharge) (leftSpeed s) (rightSpeed s) (m + 1) ≡ rightSpeed s) n
     (speed-of-right (s .depth) (s .discharge) (leftSpeed s) (rightSpeed s))
-
--- a fed boundary has that of its own water, one that is not fed counts as 0
-pub boundary-fed : (p : BoundaryPlace) (e : Boundary) (c : Side) → e .kind ≡ fed → boundarySpeed p e c ≡ signalSpeed (e .depth) (e .discharge)
-unfolding boundarySpeed boundarySide sideSpeed signalSpeed
-boundary-fed p e c k = rw k refl
 
 -- ---- the answer
 

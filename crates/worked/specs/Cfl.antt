@@ -13,37 +13,35 @@ use Rattle.sheet.specs.Opening.{emptyLedger}
 use Rattle.timestep.specs.GreatestStep.{greatest}
 use Rattle.update.specs.Step.{step}
 
--- one cell over a level bed
-abbrev pub oneCell : (h : ℕ) (q : ℤ) (left right : Boundary) → Reach
-oneCell h q left right = record {
-  bed = pos 0 ∷ [];
-  depth = h ∷ [];
-  discharge = q ∷ [];
-  mass = 0 ∷ [];
-  base = h ∷ [];
-  carried = pos 0 ∷ pos 0 ∷ [];
+-- a record with nothing carried
+abbrev pub settled : (bed : List ℤ) (depth : List ℕ) (discharge : List ℤ) (left right : Boundary) → Reach
+settled bed depth discharge left right = record {
+  bed = bed;
+  depth = depth;
+  discharge = discharge;
+  mass = tabulate (length bed) (λ i. 0);
+  base = depth;
+  carried = tabulate (length bed + 1) (λ i. pos 0);
   cellLength = 1_000;
   held = heldWith (left ∷ right ∷ []) emptyLedger noOutlets;
 }
+
+-- one cell over a level bed
+abbrev pub oneCell : (h : ℕ) (q : ℤ) (left right : Boundary) → Reach
+oneCell h q left right = settled (pos 0 ∷ []) (h ∷ []) (q ∷ []) left right
 
 -- water at rest over a level bed
 abbrev pub atRest : (depths : List ℕ) (left right : Boundary) → Reach
-atRest depths left right = record {
-  bed = tabulate (length depths) (λ i. pos 0);
-  depth = depths;
-  discharge = tabulate (length depths) (λ i. pos 0);
-  mass = tabulate (length depths) (λ i. 0);
-  base = depths;
-  carried = tabulate (length depths + 1) (λ i. pos 0);
-  cellLength = 1_000;
-  held = heldWith (left ∷ right ∷ []) emptyLedger noOutlets;
-}
+atRest depths left right = let zeros = tabulate (length depths) (λ i. pos 0) in settled zeros depths zeros left right
 
-abbrev pub openBoundary : Boundary
-openBoundary = record { kind = 1; reserved = 0; depth = 0; concentration = 0; discharge = pos 0 }
+abbrev pub openClean : Boundary
+openClean = record { kind = 1; reserved = 0; depth = 0; concentration = 0; discharge = pos 0 }
+
+abbrev pub fedWith : (q : ℤ) → Boundary
+fedWith q = record { kind = 2; reserved = 0; depth = 272_000; concentration = 0; discharge = q }
 
 abbrev pub fedStill : Boundary
-fedStill = record { kind = 2; reserved = 0; depth = 272_000; concentration = 0; discharge = pos 0 }
+fedStill = fedWith (pos 0)
 
 -- between walls, at rest; at −500 mm/s; a cell beside a fed boundary at its left; at its right; and beside an open one at its right
 abbrev pub still : Reach
@@ -59,14 +57,14 @@ abbrev pub fedRight : (h : ℕ) → Reach
 fedRight h = oneCell h (pos 0) noBoundary fedStill
 
 abbrev pub openRight : Reach
-openRight = oneCell 272_000 (pos 0) noBoundary openBoundary
+openRight = oneCell 272_000 (pos 0) noBoundary openClean
 
 -- beside a fed boundary that flows at 500 mm/s, leftwards at its left, rightwards at its right: away from the cell
 abbrev pub fedFlowing : Reach
-fedFlowing = oneCell 100_000 (pos 0) (record { kind = 2; reserved = 0; depth = 272_000; concentration = 0; discharge = negℤ (pos 136_000_000) }) noBoundary
+fedFlowing = oneCell 100_000 (pos 0) (fedWith (negℤ (pos 136_000_000))) noBoundary
 
 abbrev pub fedFlowingRight : Reach
-fedFlowingRight = oneCell 100_000 (pos 0) noBoundary (record { kind = 2; reserved = 0; depth = 272_000; concentration = 0; discharge = pos 136_000_000 })
+fedFlowingRight = oneCell 100_000 (pos 0) noBoundary (fedWith (pos 136_000_000))
 
 -- two equal cells, one slower before them and two behind; slower cells between equal fed boundaries; all dry, of one cell and of three
 abbrev pub equalCells : Reach
@@ -76,23 +74,14 @@ abbrev pub fedBoth : Reach
 fedBoth = atRest (100_000 ∷ 100_000 ∷ 100_000 ∷ []) fedStill fedStill
 
 abbrev pub dryCell : Reach
-dryCell = atRest (0 ∷ []) noBoundary openBoundary
+dryCell = atRest (0 ∷ []) noBoundary openClean
 
 abbrev pub dryCells : Reach
-dryCells = atRest (0 ∷ 0 ∷ 0 ∷ []) noBoundary openBoundary
+dryCells = atRest (0 ∷ 0 ∷ 0 ∷ []) noBoundary openClean
 
 -- a pit between walls: the water in the middle is below both banks, so that its depths reduced at either side are 0
 abbrev pub pit : Reach
-pit = record {
-  bed = pos 300_000 ∷ pos 0 ∷ pos 300_000 ∷ [];
-  depth = 0 ∷ 272_000 ∷ 0 ∷ [];
-  discharge = pos 0 ∷ pos 0 ∷ pos 0 ∷ [];
-  mass = 0 ∷ 0 ∷ 0 ∷ [];
-  base = 0 ∷ 272_000 ∷ 0 ∷ [];
-  carried = pos 0 ∷ pos 0 ∷ pos 0 ∷ pos 0 ∷ [];
-  cellLength = 1_000;
-  held = heldWith (noBoundary ∷ noBoundary ∷ []) emptyLedger noOutlets;
-}
+pit = settled (pos 300_000 ∷ pos 0 ∷ pos 300_000 ∷ []) (0 ∷ 272_000 ∷ 0 ∷ []) (pos 0 ∷ pos 0 ∷ pos 0 ∷ []) noBoundary noBoundary
 
 pub record CflWorked : Type 0 where
   -- 14,709,975·272,000 / 1,000,000 is 4,001,113; 2,000² is 4,000,000, 2,001² is 4,004,001
