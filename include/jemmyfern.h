@@ -222,7 +222,9 @@ jemmyfern_answer jemmyfern_set_boundaries(const int64_t *bed, size_t bed_length,
                                           uint64_t cell_length, jemmyfern_boundaries boundaries, jemmyfern_ledger ledger,
                                           jemmyfern_boundaries new_boundaries);
 
-/* The greatest time step that the record allows now, and where the water is fastest: the highest place among equals. */
+/* The greatest time step that the record allows now, and where the water is fastest: the highest place among equals. A step t passes where
+ * t * (|u| + a) <= 1000 * cell_length (CFL, refusal 11) in each cell and each fed boundary, with the velocity u, cut towards zero, and the wave
+ * speed a, the root of 3gh/2 rounded up, both in whole mm/s; g is 9.80665 m/s2. */
 jemmyfern_greatest jemmyfern_greatest_step(const int64_t *bed, size_t bed_length, const uint64_t *depth, size_t depth_length,
                                            const int64_t *discharge, size_t discharge_length,
                                            const uint64_t *mass, size_t mass_length, const uint64_t *base, size_t base_length,

@@ -2,10 +2,11 @@
 use mathlib.Core.Path.{_≡_, refl, sym, ap, _∙_, subst}
 use mathlib.Core.Bool.{Bool, true, false, cond, _&&_}
 use mathlib.Core.List.{List, []}
-use Prim.Native.Nat.{ℕ, suc, _+_, _-_, _*_, _/_, _≤_, _<_, min}
-use native.Mathlib.Nat.{add-zero, le-antisymm, le-of-suc-le-suc, lt-of-not-le}
+use mathlib.Core.Logic.{⊎-elim}
+use Prim.Native.Nat.{ℕ, zero, suc, _+_, _-_, _*_, _/_, _≤_, _<_, min}
+use native.Mathlib.Nat.{add-zero, eq-or-lt-of-le, le-antisymm, le-of-lt, le-of-suc-le-suc, lt-of-not-le, mul-le-mul, mul-le-mul-left}
 use native.Mathlib.Omega.{arith}
-use borrow.Author.Tests.{le-leb, leb-true}
+use borrow.Author.Tests.{le-leb, leb-true, eqb-true, eqb-false}
 use denote.Ref.{now}
 use lib.Dec.{leb, ltb, eqb}
 use lib.IntN.{ℤ, pos, negℤ, _+ℤ_, _-ℤ_}
@@ -17,8 +18,9 @@ use Rattle.numbers.specs.Signed.{positive}
 use Rattle.numbers.proofs.IndexLaws.{all-at, all-below, all-same, length-tabulate, getD-tabulate, sum-same, sum-tabulate}
 use Rattle.numbers.proofs.DealLaws.{floors-tabulate, dealt-at}
 use Rattle.numbers.proofs.SignedLaws.{from-cross, minus-cross, pos-cross}
-use Rattle.numbers.proofs.RootLaws.{square-root-low, square-root-greatest}
+use Rattle.numbers.proofs.RootLaws.{square-lt}
 use Rattle.flux.specs.Wave.{waveSpeed}
+use Rattle.flux.proofs.WaveLaws.{wave-speed-meets, wave-speed-least}
 use Rattle.flux.proofs.CrossingLaws.{lower-le-upper, water-flux-dry, momentum-flux-dry, still-thrust-dry}
 use Rattle.cfl.specs.Cfl.{signalSpeed, meetsCfl}
 use Rattle.cfl.proofs.CflLaws.{fastest-within, fastest-greatest, fastest-highest, greatest-step-meets, greatest-step-greatest}
@@ -46,22 +48,21 @@ use Rattle.water.specs.Water.{available, wantsFrom, draws, drawOf, newDepth, un
 use Rattle.water.specs.Sides.{cellSide}
 use Rattle.water.specs.Ranges.{granted}
 use Rattle.water.proofs.WaterLaws.{granted-is, draws-dealt, draw-most}
-use Rattle.update.specs.Step.{summed, summedDrawn, keepsSums, transportedFirst, stepOutlets, stepHeld, afterStep}
-use Rattle.update.proofs.StepLaws.{step-stands-again}
+use Rattle.update.specs.Step.{summed, summedDrawn, keepsSums, transportedFirst, stepOutlets, stepHeld, afterStep, step}
+use Rattle.update.proofs.StepLaws.{by-step, step-stands-again}
 use Rattle.stepping.proofs.StepCallLaws.{left-by-step}
 use Rattle.sheet.proofs.OpeningLaws.{opened-stands, left-by-opening}
 use Rattle.writing.specs.Writing.{noneDrawn}
 use Rattle.jemmyfern_c.proofs.Functions.{given}
 use Rattle.demands.specs.Demand1.{First}
-use Rattle.demands.specs.Model.{Amounts, Drawing, WithNoOutlet, NoGrainKept, PlaceSpeeds, Fastest, GreatestStep, OneFastest, Stands, StandsAgain}
+use Rattle.demands.specs.Model.{Amounts, Drawing, WithNoOutlet, NoGrainKept, PlaceSpeeds, Fastest, GreatestStep, OneFastest, UnroundedCflAt, UnroundedCfl, NotTooLong, Stands, StandsAgain}
 use Rattle.demands.proofs.Demand1Laws.{first}
 use Rattle.demands.proofs.Demand2Laws.{transported-count, lentBy, greatest-stood, greatest-is}
 
 pub amounts : Amounts
-unfolding waveSpeed
 amounts = record {
-  wave-meets = λ h. square-root-low _;
-  wave-greatest = λ h a l. square-root-greatest a _ l;
+  wave-meets = λ h. omega (arith, wave-speed-meets h);
+  wave-least = λ h a l. omega (arith, wave-speed-least h a l);
   water-dry = water-flux-dry;
   momentum-dry = momentum-flux-dry;
   thrust-dry = still-thrust-dry;
@@ -180,12 +181,16 @@ no-grain-kept κs l X h r e k z i w all =
     (λ b f y. emptied-at s b i w gone)
     (sym (k .0 .refusal-is) ∙ z)
 
+-- CFL at a place
+abbrev MeetsAt : Reach → (t i : ℕ) → Type 0
+MeetsAt s t i = t * placeSpeed s i ≤ 1_000 * s .cellLength
+
 -- CFL at every place, by each of them
-meets-each : (s : Reach) (t : ℕ) → meetsCfl (placeSpeed s) (cells s + 1) (s .cellLength) t ≡ true → (i : ℕ) → i ≤ cells s + 1 → t * placeSpeed s i ≤ 1_000 * s .cellLength
+meets-each : (s : Reach) (t : ℕ) → meetsCfl (placeSpeed s) (cells s + 1) (s .cellLength) t ≡ true → (i : ℕ) → i ≤ cells s + 1 → MeetsAt s t i
 unfolding meetsCfl
 meets-each s t e i l = leb-true _ _ (all-at (λ j. leb (t * placeSpeed s j) (1_000 * s .cellLength)) (suc (cells s + 1)) i e (omega (arith, l)))
 
-each-meets : (s : Reach) (t : ℕ) → ((i : ℕ) → i ≤ cells s + 1 → t * placeSpeed s i ≤ 1_000 * s .cellLength) → meetsCfl (placeSpeed s) (cells s + 1) (s .cellLength) t ≡ true
+each-meets : (s : Reach) (t : ℕ) → ((i : ℕ) → i ≤ cells s + 1 → MeetsAt s t i) → meetsCfl (placeSpeed s) (cells s + 1) (s .cellLength) t ≡ true
 unfolding meetsCfl
 each-meets s t f = all-below (λ j. leb (t * placeSpeed s j) (1_000 * s .cellLength)) (suc (cells s + 1)) (λ i l. le-leb _ _ (f i (omega (arith, l))))
 
@@ -237,6 +242,80 @@ one-fastest s time time' place place' f g = (
   le-antisymm (g .greatest time (f .most) (f .meets)) (f .greatest time' (g .most) (g .meets)),
   le-antisymm (not-lower s time' time place' place g f) (not-lower s time time' place place' f g),
 )
+
+-- ---- CFL with the wave speed not rounded
+
+unrounded : (t X h v : ℕ) → t * (v + waveSpeed h) ≤ 1_000 * X → UnroundedCflAt t X h v
+unrounded t X h v l = record { left-over = omega (arith, l); wave = omega (arith, go (1_000 * X - t * v) (omega (arith, l))) }
+  where
+    go : (room : ℕ) → t * waveSpeed h ≤ room → t * t * (14_709_975 * h) ≤ 1_000_000 * (room * room)
+    go room k = omega (arith, mul-le-mul-left (t * t) (wave-speed-meets h), mul-le-mul k k)
+
+-- one less than the wave speed is below √(3gh/2)
+rounded-once : (t X h v : ℕ) → t * (v + 1) ≤ 1_000 * X → t * t * (14_709_975 * h) ≤ 1_000_000 * ((1_000 * X - t * (v + 1)) * (1_000 * X - t * (v + 1))) → t * (v + waveSpeed h) ≤ 1_000 * X
+rounded-once t X h v l w = go (waveSpeed h) (wave-speed-least h)
+  where
+    go : (a : ℕ) → ((b : ℕ) → 14_709_975 * h ≤ 1_000_000 * (b * b) → a ≤ b) → t * (v + a) ≤ 1_000 * X
+    go zero least = omega (arith, l)
+    go (suc b) least =
+        let below : 1_000_000 * (b * b) < 14_709_975 * h = lt-of-not-le (λ k. omega (arith, least b k)) in
+        let room = 1_000 * X - t * (v + 1) in
+        let fits : t * b < suc room = square-lt (t * b) (suc room) (omega (arith, mul-le-mul-left (t * t) (le-of-lt below), w)) in
+        omega (arith, fits, l)
+
+-- with 1 mm/s to spare at each place that counts, ours is met at every place
+spared : (s : Reach) (t : ℕ) → PlaceSpeeds s → UnroundedCfl s t 1 → (i : ℕ) → i ≤ cells s + 1 → MeetsAt s t i
+spared s t speeds u = place
+  where
+    counts : (i h v : ℕ) → placeSpeed s i ≡ v + waveSpeed h → UnroundedCflAt t (s .cellLength) h (v + 1) → MeetsAt s t i
+    counts i h v e f = rw e (rounded-once t (s .cellLength) h v (omega (arith, f .left-over)) (omega (arith, f .wave)))
+
+    -- an end that is fed, or is not
+    end : (i kind : ℕ) → (kind ≡ 2 → MeetsAt s t i) → ((kind ≡ 2 → ⊥) → placeSpeed s i ≡ 0) → MeetsAt s t i
+    end i kind fed unfed = go (eqb kind 2) refl
+      where
+        go : (b : Bool) → eqb kind 2 ≡ b → MeetsAt s t i
+        go true e = fed (eqb-true kind 2 e)
+        go false e = rw (unfed (eqb-false kind 2 e)) (omega arith)
+
+    right : MeetsAt s t (cells s + 1)
+    right = end (cells s + 1) _ (λ k. counts _ _ _ (speeds .right-fed k) (u .right-fed (omega (arith, k)))) (speeds .right-unfed)
+
+    cell : (i : ℕ) → i < cells s → MeetsAt s t (i + 1)
+    cell i m = counts _ _ _ (speeds .cell i m) (u .cell i (omega (arith, m)))
+
+    place : (i : ℕ) → i ≤ cells s + 1 → MeetsAt s t i
+    place zero l = end 0 _ (λ k. counts _ _ _ (speeds .left-fed k) (u .left-fed (omega (arith, k)))) (speeds .left-unfed)
+    place (suc i) l =
+        ⊎-elim
+        (λ e. subst (MeetsAt s t) (omega (arith, e)) right)
+        (λ m. subst (MeetsAt s t) (omega arith) (cell i m))
+        (eq-or-lt-of-le (omega (arith, l)))
+
+unrounded-cfl : (s : Reach) (t : ℕ) → PlaceSpeeds s → ((i : ℕ) → i ≤ cells s + 1 → MeetsAt s t i) → UnroundedCfl s t 0
+unrounded-cfl s t speeds meets = record {
+  cell = λ i l. at (i + 1) _ _ (omega (arith, l)) (speeds .cell i (omega (arith, l)));
+  left-fed = λ k. at 0 _ _ (omega arith) (speeds .left-fed (omega (arith, k)));
+  right-fed = λ k. at (cells s + 1) _ _ (omega arith) (speeds .right-fed (omega (arith, k)));
+}
+  where
+    at : (i h v : ℕ) → i ≤ cells s + 1 → placeSpeed s i ≡ v + waveSpeed h → UnroundedCflAt t (s .cellLength) h (v + 0)
+    at i h v l e = unrounded t (s .cellLength) h (v + 0) (rw (add-zero, sym e) (meets i l))
+
+-- an accepted step meets CFL
+step-meets : (s : Reach) (t : ℕ) → step s t .refusal ≡ 0 → PlaceSpeeds s × ((i : ℕ) → i ≤ cells s + 1 → MeetsAt s t i)
+step-meets s t =
+    by-step s t (λ o. o .refusal ≡ 0 → PlaceSpeeds s × ((i : ℕ) → i ≤ cells s + 1 → MeetsAt s t i))
+    (λ n p y. absurd (omega (arith, p, y)))
+    (λ b c d f y. (place-speeds s b, meets-each s t c))
+
+pub not-too-long : NotTooLong
+not-too-long = record {
+  step = λ κs l X h t r e k z. let g = step-meets (given l X h) t (sym (k .0 .refusal-is) ∙ z) in unrounded-cfl (given l X h) _ (g .0) (λ i m. omega (arith, g .1 i m));
+  greatest = λ κs l X h r k z. let g = greatest-step κs l X h r k z in unrounded-cfl (given l X h) _ (g .0) (λ i m. omega (arith, g .1 .meets i m));
+  nearly = λ t X h v u. rounded-once t X h v (omega (arith, u .left-over)) (omega (arith, u .wave));
+  nearly-greatest = λ κs l X h r k z t m u. let g = greatest-step κs l X h r k z in g .1 .greatest t m (spared (given l X h) t (g .0) u);
+}
 
 -- a record that passes is one that stands
 passed : {s s' : Reach} → s ≡ s' → ((es : List Boundary) → boundariesFit es ≡ true → firstRefusal (recordGrounds s' es) ≡ Pass) → Stands s

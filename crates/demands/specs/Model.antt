@@ -35,9 +35,9 @@ use Rattle.demands.specs.Demand1.{First}
 use Rattle.demands.specs.Demand2.{stepped, transported, opened}
 
 pub record Amounts : Type 0 where
-  -- 'Wave speed a(h): the greatest whole a with a² ≤ floor(14,709,975·h / 1,000,000)'
-  pub wave-meets : (h : ℕ) → waveSpeed h * waveSpeed h ≤ 14_709_975 * h / 1_000_000
-  pub wave-greatest : (h a : ℕ) → a * a ≤ 14_709_975 * h / 1_000_000 → a ≤ waveSpeed h
+  -- document 02, point 3: 'The wave speed becomes the least whole a with 1,000,000·a² at least 14,709,975·h'
+  pub wave-meets : (h : ℕ) → 14_709_975 * h ≤ 1_000_000 * (waveSpeed h * waveSpeed h)
+  pub wave-least : (h a : ℕ) → 14_709_975 * h ≤ 1_000_000 * (a * a) → waveSpeed h ≤ a
   -- 'All are 0 when h = 0'
   pub water-dry : (t X : ℕ) (u : ℤ) → waterFlux t X 0 u ≡ 0
   pub momentum-dry : (t X : ℕ) (u : ℤ) → momentumFlux t X 0 u ≡ 0
@@ -80,7 +80,7 @@ pub record Drawing : Type 0 where
       let os = s .held .outlets in
       summedDrawn s t i ≡ tabulate (os .count) (λ k. cond (eqb (outletAt os k .cell) i) (outletAt os k .drawn + drawOf s t k) 0)
 
--- with no outlet, every amount, test and list of grounds is document 01's
+-- with no outlet, every amount, test and list of grounds is document 01's, but for the wave speed (point 3)
 pub record WithNoOutlet : Type 0 where
   -- 16 stands, and 8, 9 and 14 test what they tested
   pub fits : (n : ℕ) (os : Outlets) → os .count ≡ 0 → outletsFit n os ≡ true
@@ -108,9 +108,13 @@ NoGrainKept =
     positive (carriedAt s (i + 1)) + positive (negℤ (carriedAt s i)) + sum (drawnFrom (s .held .outlets) i) ≡ baseAt s i →
     getD (e .mass) i 0 ≡ rightwards (massColumnsOf s) i + leftwards (massColumnsOf s) (i + 1)
 
--- |u|+a of a depth with a discharge
+-- |u| of a depth with a discharge
+abbrev pub flowSpeed : (h : ℕ) (q : ℤ) → ℕ
+flowSpeed h q = natAbs (velocity h q)
+
+-- |u|+a
 abbrev pub speedOf : (h : ℕ) (q : ℤ) → ℕ
-speedOf h q = natAbs (velocity h q) + waveSpeed h
+speedOf h q = flowSpeed h q + waveSpeed h
 
 -- the places of a record: '0 left end, 1..n the cells, n+1 right end; an end that is not fed counts as 0'
 pub record PlaceSpeeds (s : Reach) : Type 0 where
@@ -143,6 +147,30 @@ GreatestStep =
 -- and no other answer is right: two that `Fastest` allows are the same
 abbrev pub OneFastest : Type 0
 OneFastest = (s : Reach) (time time' place place' : ℕ) → Fastest s time place → Fastest s time' place' → (time ≡ time') × (place ≡ place')
+
+-- 'the CFL of report 4529', its (18), with √(3gh/2) as it is and not rounded, and |u| in whole mm/s, as the model has it: t·(v + √(3gh/2)) ≤ 1,000·X at depth h and |u| = v. Without the
+-- root: 3gh/2 is 14,709,975·h / 1,000,000, and t·√(3gh/2) fits into what t·v leaves of 1,000·X (`left-over`: nothing is cut off at 0 there)
+pub record UnroundedCflAt (t X h v : ℕ) : Type 0 where
+  pub left-over : t * v ≤ 1_000 * X
+  pub wave : t * t * (14_709_975 * h) ≤ 1_000_000 * ((1_000 * X - t * v) * (1_000 * X - t * v))
+
+-- at each cell and each fed end, with `spare` mm/s more
+pub record UnroundedCfl (s : Reach) (t spare : ℕ) : Type 0 where
+  pub cell : (i : ℕ) → i < cells s → UnroundedCflAt t (s .cellLength) (depthAt s i) (flowSpeed (depthAt s i) (dischargeAt s i) + spare)
+  pub left-fed : let left = leftBoundary (s .held .boundaries) in
+      left .kind ≡ 2 → UnroundedCflAt t (s .cellLength) (left .depth) (flowSpeed (left .depth) (left .discharge) + spare)
+  pub right-fed : let right = rightBoundary (s .held .boundaries) in
+      right .kind ≡ 2 → UnroundedCflAt t (s .cellLength) (right .depth) (flowSpeed (right .depth) (right .discharge) + spare)
+
+-- 'Users compare our greatest step with the CFL of report 4529 and find it sometimes some milliseconds too long': as to the wave speed it is not, and no accepted step is. (u is cut
+-- towards zero in it as everywhere: of |q/h| up to 1 mm/s is left out)
+pub record NotTooLong : Type 0 where
+  pub step : (κs : Lfts 7) (l : Lent) (X : ℕ) (k : Held) (t : ℕ) (r : Stepped) (e : StepLeft) → StepEnsures κs l X k t r e → r .refusal ≡ 0 → UnroundedCfl (given l X k) t 0
+  pub greatest : (κs : Lfts 7) (l : Lent) (X : ℕ) (k : Held) (r : Greatest) → GreatestEnsures κs l X k r → r .refusal ≡ 0 → UnroundedCfl (given l X k) (r .time) 0
+  -- nor much too short: what meets it with 1 mm/s more meets ours, so that no step that does is longer than the greatest
+  pub nearly : (t X h v : ℕ) → UnroundedCflAt t X h (v + 1) → t * (v + waveSpeed h) ≤ 1_000 * X
+  pub nearly-greatest : (κs : Lfts 7) (l : Lent) (X : ℕ) (k : Held) (r : Greatest) → GreatestEnsures κs l X k r → r .refusal ≡ 0
+      → (t : ℕ) → t ≤ 1_000 → UnroundedCfl (given l X k) t 1 → t ≤ r .time
 
 -- the record that an accepted call leaves stands grounds 4 to 9, whatever pair that fits the next call is given: no call of ours is the cause that the next is refused by them
 abbrev pub Stands : Reach → Type 0

@@ -3,7 +3,7 @@ ghost use Rattle.demands.specs.Demand1.{AsksNothing, RefusedByTheFirst, 
 ghost use Rattle.demands.specs.Limits.{Limits, Lists};
 ghost use Rattle.demands.specs.Demand2.{DigitForDigit, ReadBack, WroteAgain};
 ghost use Rattle.demands.specs.Demand3.{AfterEveryList, NoDepthBelowZero, NoWantExceeded, AvailableFromZero, TallyCourse};
-ghost use Rattle.demands.specs.Model.{Amounts, Drawing, WithNoOutlet, NoGrainKept, GreatestStep, OneFastest, StandsAgain};
+ghost use Rattle.demands.specs.Model.{Amounts, Drawing, WithNoOutlet, NoGrainKept, GreatestStep, OneFastest, NotTooLong, StandsAgain};
 
 pub fn demand_1()
     ensures { λ _. ⌜ AsksNothing ⌝ }
@@ -39,5 +39,6 @@ pub fn model()
     ensures { λ _. ⌜ NoGrainKept ⌝ }
     ensures { λ _. ⌜ GreatestStep ⌝ }
     ensures { λ _. ⌜ OneFastest ⌝ }
+    ensures { λ _. ⌜ NotTooLong ⌝ }
     ensures { λ _. ⌜ StandsAgain ⌝ }
 {}

@@ -1,4 +1,4 @@
--- Document 01, 'Figures to meet': the two-cell run and the CFL figure, computed from the definitions. Two cells, walls, flat bottom 0, X 1,000, depths
+-- Document 01, 'Figures to meet', with the wave speed of document 02, point 3: the two-cell run and the CFL figure, computed from the definitions. Two cells, walls, flat bottom 0, X 1,000, depths
 -- 1,000,000 and 100,000 at rest, mass 3,000,000 and 0, one step of 100, then a transport.
 use mathlib.Core.Path.{_≡_}
 use mathlib.Core.List.{List, [], _∷_}
@@ -37,9 +37,9 @@ afterwards = transport (step twoCells 100 .reach)
 pub record TwoCellRun : Type 0 where
   pub step-accepted : step twoCells 100 .refusal ≡ 0
   pub transport-accepted : afterwards .refusal ≡ 0
-  pub depths : afterwards .reach .depth ≡ 907_155 ∷ 192_845 ∷ []
-  pub discharges : afterwards .reach .discharge ≡ pos 242_672_160 ∷ pos 242_672_160 ∷ []
-  pub masses : afterwards .reach .mass ≡ 2_721_465 ∷ 278_535 ∷ []
+  pub depths : afterwards .reach .depth ≡ 907_132 ∷ 192_868 ∷ []
+  pub discharges : afterwards .reach .discharge ≡ pos 242_795_920 ∷ pos 242_795_920 ∷ []
+  pub masses : afterwards .reach .mass ≡ 2_721_396 ∷ 278_604 ∷ []
   pub ledger-empty : afterwards .reach .held .ledger ≡ record { left = noTotals; right = noTotals }
 
 -- depth 1,000,000 at rest, X 1,000: t 260 passes CFL, 261 is 11

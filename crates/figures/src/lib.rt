@@ -1,4 +1,4 @@
-// The starred figures of document 01. A function without effect ensures them, so that the gate proves the whole table.
+// The starred figures of document 01, with the wave speed of document 02, point 3. A function without effect ensures them, so that the gate proves the whole table.
 ghost use Rattle.figures.specs.Figures.{Figures};
 ghost use Rattle.figures.specs.TwoCells.{TwoCellRun, CflFigure};
 
@@ -6,7 +6,7 @@ pub fn figures_met()
     ensures { λ _. ⌜ Figures ⌝ }
 {}
 
-// The two-cell run and the CFL figure of document 01, computed from the definitions
+// The two-cell run and the CFL figure of document 01, with that wave speed, computed from the definitions
 pub fn two_cell_run_met()
     ensures { λ _. ⌜ TwoCellRun × CflFigure ⌝ }
 {}

@@ -1,28 +1,41 @@
--- What the crates above know of the wave speed: it is monotone, positive for a wet cell, and small. Assumes nothing.
-use mathlib.Core.Path.{_≡_}
-use Prim.Native.Nat.{ℕ, _*_, _/_, _≤_, _<_}
+-- What the crates above know of the wave speed: it is monotone, positive for a wet cell, small, and the least whole number not below √(3gh/2). Assumes nothing.
+use mathlib.Core.Path.{_≡_, refl}
+use Prim.Native.Nat.{ℕ, _+_, _*_, _≤_, _<_}
+use native.Mathlib.Nat.{mul-le-mul, le-antisymm, lt-of-not-le}
 use native.Mathlib.Omega.{arith}
 use lib.Dec.{lit≤}
-use Rattle.numbers.proofs.RootLaws.{square-root-mono, square-root-greatest, square-root-is}
+use Rattle.numbers.specs.Root.{squareRootCeil}
+use Rattle.numbers.proofs.SearchLaws.{reaching-meets, reaching-least}
+use Rattle.numbers.proofs.RootLaws.{le-square, square-root-meets, square-root-least}
 use Rattle.flux.specs.Wave.{waveSpeed}
 use Rattle.flux.specs.Limits.{depthMost}
 use Rattle.flux.specs.Ranges.{waveMost}
 
-pub wave-speed-mono : (h k : ℕ) → h ≤ k → waveSpeed h ≤ waveSpeed k
+-- its square is at least 3gh/2
+pub wave-speed-meets : (h : ℕ) → 14_709_975 * h ≤ 1_000_000 * (waveSpeed h * waveSpeed h)
 unfolding waveSpeed
-wave-speed-mono h k l = square-root-mono _ _ (omega arith)
+wave-speed-meets h = omega (arith, reaching-meets _ _ _ (waveSpeed h) refl (omega (arith, le-square h)))
+
+-- and that of no lesser number is
+pub wave-speed-least : (h a : ℕ) → 14_709_975 * h ≤ 1_000_000 * (a * a) → waveSpeed h ≤ a
+unfolding waveSpeed
+wave-speed-least h a l = reaching-least _ _ _ (waveSpeed h) a refl (omega (arith, l))
+
+pub wave-speed-mono : (h k : ℕ) → h ≤ k → waveSpeed h ≤ waveSpeed k
+wave-speed-mono h k l = wave-speed-least h (waveSpeed k) (omega (arith, l, wave-speed-meets k))
 
 pub wave-speed-pos : (h : ℕ) → 0 < h → 0 < waveSpeed h
-unfolding waveSpeed
-wave-speed-pos h l = square-root-greatest 1 _ (omega arith)
+wave-speed-pos h l = lt-of-not-le (λ z. omega (arith, l, wave-speed-meets h, mul-le-mul z z))
 
 pub wave-speed-dry : waveSpeed 0 ≡ 0
-unfolding waveSpeed
-wave-speed-dry = square-root-is 0 _ (lit≤ tt) (lit≤ tt)
-
-deepest : waveSpeed depthMost ≡ 7_670
-unfolding waveSpeed
-deepest = square-root-is 7_670 _ (lit≤ tt) (lit≤ tt)
+wave-speed-dry = omega (arith, wave-speed-least 0 0 (lit≤ tt))
 
 pub wave-speed-most : (h : ℕ) → h ≤ depthMost → waveSpeed h ≤ waveMost
-wave-speed-most h l = omega (arith, wave-speed-mono h depthMost l, deepest)
+wave-speed-most h l = omega (arith, wave-speed-mono h depthMost l, wave-speed-least depthMost 7_671 (lit≤ tt))
+
+-- it is the root, rounded up, of the quotient rounded up
+pub wave-speed-root : (h x : ℕ) → 14_709_975 * h ≤ 1_000_000 * x → 1_000_000 * x < 14_709_975 * h + 1_000_000 → waveSpeed h ≡ squareRootCeil x
+wave-speed-root h x l m =
+    le-antisymm
+    (wave-speed-least h (squareRootCeil x) (omega (arith, l, square-root-meets x)))
+    (square-root-least (waveSpeed h) x (omega (arith, m, wave-speed-meets h)))

@@ -4,7 +4,7 @@ use Prim.Native.Nat.{ℕ, _+_, _*_, _≤_, _<_}
 use Rattle.flux.specs.Limits.{depthMost, velocityMost, timeStepMost, cellLengthLeast, cellLengthMost}
 use Rattle.flux.specs.Wave.{waveSpeed}
 
--- a round bound of the wave speed, with room for one that is rounded up, and of K, which is at most A²
+-- round bounds of the wave speed, which is at most 7,671, and of K, which is at most A²
 abbrev pub waveMost : ℕ
 waveMost = 8_000
 

@@ -3,12 +3,12 @@ ghost use mathlib.Core.Path.{_≡_};
 ghost use Prim.Native.Nat.{_≤_};
 ghost use Rattle.flux.specs.Limits.{depthMost};
 ghost use Rattle.flux.specs.Wave.{waveSpeed};
-use numbers::root::square_root;
+use numbers::root::square_root_ceil;
 
 // a(h), mm/s, of a depth in micrometres
 pub fn wave_speed(h: u64) -> u64
     requires { ⌜ h ≤ depthMost ⌝ }
     ensures { λ r. ⌜ r ≡ waveSpeed h ⌝ }
 {
-    square_root(14_709_975 * h / 1_000_000)
+    square_root_ceil((14_709_975 * h + 999_999) / 1_000_000)
 }

@@ -1,52 +1,36 @@
--- Laws of the whole square root, and why a chord of a table of roots lies below the root. Assumes nothing.
-use mathlib.Core.Path.{_≡_, ap}
-use mathlib.Core.Bool.{Bool, true, false, not}
+-- Laws of the whole square root rounded up, and why a chord of a table of roots lies below the root. Assumes nothing.
+use mathlib.Core.Path.{_≡_, refl, ap}
 use mathlib.Core.Logic.{_⊎_, inl, inr, ⊎-elim}
 use Prim.Native.Nat.{ℕ, zero, suc, _+_, _*_, _/_, _≤_, _<_}
-use native.Mathlib.Nat.{mul-le-mul, mul-le-mul-left, mul-pos, le-of-mul-le-mul-left, div-mul-le-self, le-dest, le-of-lt, lt-irrefl, le-antisymm, lt-of-not-le, le-of-suc-le-suc, lt-of-le-of-lt, le-trans}
+use native.Mathlib.Nat.{mul-le-mul, mul-le-mul-left, mul-pos, le-of-mul-le-mul-left, div-mul-le-self, le-dest, le-of-lt, lt-irrefl, lt-of-not-le, lt-of-le-of-lt}
 use native.Mathlib.Omega.{arith}
-use lib.Dec.{T, not-T, leb, leb→le, nleb→lt}
-use Rattle.numbers.specs.Search.{climb}
-use Rattle.numbers.specs.Root.{squareRoot}
-use Rattle.numbers.proofs.SearchLaws.{by-test, climb-stops, climb-past}
+use lib.Dec.{leb, leb→le, nleb→lt}
+use Rattle.numbers.specs.Root.{squareRootCeil}
+use Rattle.numbers.proofs.SearchLaws.{by-test, reaching-meets, reaching-least}
 
 -- squares keep the order
 pub square-lt : (a b : ℕ) → a * a < b * b → a < b
 square-lt a b h = lt-of-not-le (λ k. lt-irrefl _ (lt-of-le-of-lt (mul-le-mul k k) h))
 
--- the next square is above x
-pub square-root-high : (x : ℕ) → x < suc (squareRoot x) * suc (squareRoot x)
-unfolding squareRoot
-square-root-high x = nleb→lt _ _ (climb-stops (λ a. leb (suc a * suc a) x) x 0 far)
-  where
-    far : T (not (leb (suc (0 + x) * suc (0 + x)) x))
-    far = not-T (leb (suc (0 + x) * suc (0 + x)) x) (λ t. let l = leb→le (suc (0 + x) * suc (0 + x)) x t in omega arith)
+-- no number is above its square
+pub le-square : (n : ℕ) → n ≤ n * n
+le-square zero = omega arith
+le-square (suc n) = omega arith
 
--- the square is at most x
-pub square-root-low : (x : ℕ) → squareRoot x * squareRoot x ≤ x
-unfolding squareRoot
-square-root-low x = go (climb can x 0) (λ b l. leb→le _ _ (climb-past can x 0 b (omega arith) l))
-  where
-    can : ℕ → Bool
-    can a = leb (suc a * suc a) x
+-- the square is at least x
+pub square-root-meets : (x : ℕ) → x ≤ squareRootCeil x * squareRootCeil x
+unfolding squareRootCeil
+square-root-meets x = omega (arith, reaching-meets _ _ _ (squareRootCeil x) refl (omega (arith, le-square x)))
 
-    go : (r : ℕ) → ((b : ℕ) → b < r → suc b * suc b ≤ x) → r * r ≤ x
-    go zero f = omega arith
-    go (suc b) f = f b (omega arith)
+-- it is the least: whatever has its square at least x is at least the root
+pub square-root-least : (b x : ℕ) → x ≤ b * b → squareRootCeil x ≤ b
+unfolding squareRootCeil
+square-root-least b x h = reaching-least _ _ _ (squareRootCeil x) b refl (omega (arith, h))
 
--- it is the greatest: whatever has its square at most x is at most the root
-pub square-root-greatest : (b x : ℕ) → b * b ≤ x → b ≤ squareRoot x
-square-root-greatest b x h = le-of-suc-le-suc (square-lt b (suc (squareRoot x)) (lt-of-le-of-lt h (square-root-high x)))
-
--- and the only one: every search ends in this law
-pub square-root-is : (a x : ℕ) → a * a ≤ x → x < suc a * suc a → squareRoot x ≡ a
+-- and the only one: the search ends in this law
+pub square-root-is : (a x : ℕ) → a * a < x → x ≤ (a + 1) * (a + 1) → squareRootCeil x ≡ a + 1
 square-root-is a x h k =
-    le-antisymm
-    (le-of-suc-le-suc (square-lt (squareRoot x) (suc a) (lt-of-le-of-lt (square-root-low x) k)))
-    (square-root-greatest a x h)
-
-pub square-root-mono : (x y : ℕ) → x ≤ y → squareRoot x ≤ squareRoot y
-square-root-mono x y h = square-root-greatest (squareRoot x) y (le-trans (square-root-low x) h)
+    omega (arith, square-root-least (a + 1) x k, square-lt a (squareRootCeil x) (omega (arith, h, square-root-meets x)))
 
 -- ---- a start below the root
 

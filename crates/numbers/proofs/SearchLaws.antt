@@ -3,10 +3,10 @@ use mathlib.Core.Path.{_≡_, subst}
 use mathlib.Core.Bool.{Bool, true, false, not}
 use mathlib.Core.Logic.{⊎-elim}
 use Prim.Native.Nat.{ℕ, zero, suc, _+_, _≤_, _<_}
-use native.Mathlib.Nat.{eq-or-lt-of-le, le-of-suc-le-suc, lt-of-not-le}
+use native.Mathlib.Nat.{eq-or-lt-of-le, le-of-suc-le-suc, lt-of-not-le, zero-add}
 use native.Mathlib.Omega.{arith}
-use lib.Dec.{T, T-not, ltb, ltb→lt, nltb→le}
-use Rattle.numbers.specs.Search.{climb}
+use lib.Dec.{T, T-not, not-T, ltb, ltb→lt, nltb→le}
+use Rattle.numbers.specs.Search.{climb, leastReaching}
 
 -- by the two outcomes of a test
 pub by-test : (c : Bool) (P : Bool → Type 0) → (T c → P true) → (T (not c) → P false) → P c
@@ -73,3 +73,19 @@ climb-reaches canRaise (suc k) a b l f =
 -- by the two outcomes of a test of order
 pub by-less : (a b : ℕ) (P : Bool → Type 0) → (a < b → P true) → (b ≤ a → P false) → P (ltb a b)
 by-less a b P f g = by-test (ltb a b) P (λ t. f (ltb→lt a b t)) (λ t. g (nltb→le a b t))
+
+-- ---- the least that reaches
+
+-- what it finds reaches, where some number within its turns does
+pub reaching-meets : (f : ℕ → ℕ) (x turns a : ℕ) → a ≡ leastReaching f x turns → x ≤ f turns → x ≤ f a
+unfolding leastReaching
+reaching-meets f x turns a e h = rw e (nltb→le _ _ (climb-stops (λ a. ltb (f a) x) turns 0 far))
+  where
+    far : T (not (ltb (f (0 + turns)) x))
+    far = rw zero-add (not-T (ltb (f turns) x) (λ t. omega (arith, ltb→lt (f turns) x t, h)))
+
+-- and whatever reaches is not below it
+pub reaching-least : (f : ℕ → ℕ) (x turns a b : ℕ) → a ≡ leastReaching f x turns → x ≤ f b → a ≤ b
+unfolding leastReaching
+reaching-least f x turns a b e h =
+    rw e (le-of-suc-le-suc (lt-of-not-le (λ l. omega (arith, ltb→lt (f b) x (climb-past (λ a. ltb (f a) x) turns 0 b (omega arith) l), h))))

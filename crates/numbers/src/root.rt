@@ -1,7 +1,7 @@
-// The whole square root of a number below 2^26.
+// The whole square root, rounded up, of a number of at most 2^26.
 ghost use mathlib.Core.Path.{_≡_};
 ghost use Prim.Native.Nat.{_+_, _*_, _≤_, _<_};
-ghost use Rattle.numbers.specs.Root.{squareRoot};
+ghost use Rattle.numbers.specs.Root.{squareRootCeil};
 
 // floor(4,096·√k) for k = 0..64
 const ROOTS: [u16; 65] = [
@@ -106,16 +106,19 @@ fn below_root(x: u64) -> u64
     chord((x / 1_048_576) as usize, x % 1_048_576, 1_048_576) / 4_194_304
 }
 
-// The greatest whole number whose square is at most x: raised from below to the first that cannot be raised.
-pub fn square_root(x: u64) -> u64
-    requires { ⌜ x < 67_108_864 ⌝ }
-    ensures { λ r. ⌜ r ≡ squareRoot x ⌝ }
+// The least whole number whose square is at least x: raised from below to the first that need not be raised.
+pub fn square_root_ceil(x: u64) -> u64
+    requires { ⌜ x ≤ 67_108_864 ⌝ }
+    ensures { λ r. ⌜ r ≡ squareRootCeil x ⌝ }
 {
-    let mut a = below_root(x);
+    if x == 0 {
+        return 0;
+    }
+    let mut a = below_root(x - 1);
     let root = loop {
         let next = a + 1;
-        if x < next * next {
-            break a;
+        if x <= next * next {
+            break next;
         }
         a = next;
     };

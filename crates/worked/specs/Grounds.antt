@@ -142,7 +142,7 @@ pub record GroundsWorked : Type 0 where
   pub step-9 : step carriedMended 1_001 .refusal ≡ 9
   pub step-10 : step totalMended 1_001 .refusal ≡ 10
   pub step-11 : step totalMended 1_000 .refusal ≡ 11
-  -- 6·(8,000 + 7,670) ≤ 100,000
+  -- 6·(8,000 + 7,671) ≤ 100,000
   pub step-12 : step totalMended 6 .refusal ≡ 12
   pub step-13 : step dried 6 .refusal ≡ 13
   pub step-0 : step emptied 6 .refusal ≡ 0

@@ -43,17 +43,17 @@ pub record InterfaceWorked : Type 0 where
   pub left-depth : leftDepth before beyond ≡ 70_000
   pub right-depth : rightDepth before beyond ≡ 20_000
   pub none-shown : reducedDepth 100 (pos 0) (pos 300) ≡ 0
-  -- N = W(70,000, 500) − W(20,000, 100); with the whole depth at the left 3,850
-  pub N-over-step : netWater 70 1_030 before beyond ≡ pos 2_430
-  -- P = Q(70,000, 500) + Q(20,000, 100); with the whole depth 4,800,005
-  pub P-over-step : momentumSum 70 1_030 before beyond ≡ 2_824_202
+  -- N = W(70,000, 500) − W(20,000, 100); with the whole depth at the left 3,852
+  pub N-over-step : netWater 70 1_030 before beyond ≡ pos 2_431
+  -- P = Q(70,000, 500) + Q(20,000, 100); with the whole depth 4,804,667
+  pub P-over-step : momentumSum 70 1_030 before beyond ≡ 2_827_216
   -- h' = h − N and h + N, for a wall lets nothing pass
-  pub depths-moving : moving .reach .depth ≡ 97_570 ∷ 22_430 ∷ []
+  pub depths-moving : moving .reach .depth ≡ 97_569 ∷ 22_431 ∷ []
   -- q' = q + P(left) − P(right) + S(own h* at the right) − S(own h* at the left):
-  -- 50,000,000 + 674,636 − 2,824,202 + 1,630,472 − 3,327,704, and −2,000,000 + 2,824,202 − 72,182 with both S of 20,000.
-  -- With the two S of a cell exchanged the left one is 49,547,666
-  pub discharges-moving : moving .reach .discharge ≡ pos 46_153_202 ∷ pos 752_020 ∷ []
+  -- 50,000,000 + 676,932 − 2,827,216 + 1,633,688 − 3,333,196, and −2,000,000 + 2,827,216 − 72,538 with both S of 20,000.
+  -- With the two S of a cell exchanged the left one is 49,549,224
+  pub discharges-moving : moving .reach .discharge ≡ pos 46_150_208 ∷ pos 754_678 ∷ []
   -- still water over a step stays at rest: of the left cell P(left) = S(100,000), P(right) = S(70,000). With the two S
-  -- exchanged the left cell starts to move, at 3,394,464
+  -- exchanged the left cell starts to move, at 3,399,016
   pub depths-lake : lake .reach .depth ≡ 100_000 ∷ 70_000 ∷ []
   pub discharges-lake : lake .reach .discharge ≡ pos 0 ∷ pos 0 ∷ []

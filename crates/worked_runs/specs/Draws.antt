@@ -52,59 +52,59 @@ before = lending fed (wanting 0)
 abbrev pub again : Outlets → Reach
 again os = record {
   bed = pos 0 ∷ pos 20_000 ∷ [];
-  depth = 304_849 ∷ 21_196 ∷ [];
-  discharge = pos 84_116_044 ∷ pos 41_593_262 ∷ [];
+  depth = 304_844 ∷ 21_206 ∷ [];
+  discharge = pos 84_131_853 ∷ pos 41_609_377 ∷ [];
   mass = 900_001 ∷ 500_003 ∷ [];
   base = 310_000 ∷ 125_000 ∷ [];
-  carried = pos 10_453 ∷ pos 14_604 ∷ pos 2_000 ∷ [];
+  carried = pos 10_452 ∷ pos 14_608 ∷ pos 2_000 ∷ [];
   cellLength = 1_000;
   held = heldWith (before .held .boundaries) (record {
-    left = record { «water_in» = 10_453; «water_out» = 0; «mass_in» = 0; «mass_out» = 0 };
+    left = record { «water_in» = 10_452; «water_out» = 0; «mass_in» = 0; «mass_out» = 0 };
     right = record { «water_in» = 0; «water_out» = 2_000; «mass_in» = 0; «mass_out» = 0 };
   }) os;
 }
 
 abbrev pub between : Reach
-between = again (listed (outlet 1 60_000 46_564 46_564 0 ∷ outlet 0 1_000 1_000 1_000 0 ∷ outlet 1 0 0 0 0 ∷ outlet 1 90_000 69_844 69_844 0 ∷ []))
+between = again (listed (outlet 1 60_000 46_561 46_561 0 ∷ outlet 0 1_000 1_000 1_000 0 ∷ outlet 1 0 0 0 0 ∷ outlet 1 90_000 69_841 69_841 0 ∷ []))
 
 -- with other wants at cell 1: w and 0
 abbrev pub wantingLess : (w : ℕ) → Reach
-wantingLess w = again (listed (outlet 1 w 46_564 46_564 0 ∷ outlet 0 1_000 1_000 1_000 0 ∷ outlet 1 0 0 0 0 ∷ outlet 1 0 69_844 69_844 0 ∷ []))
+wantingLess w = again (listed (outlet 1 w 46_561 46_561 0 ∷ outlet 0 1_000 1_000 1_000 0 ∷ outlet 1 0 0 0 0 ∷ outlet 1 0 69_841 69_841 0 ∷ []))
 
 pub record DrawsWorked : Type 0 where
-  -- 310,000 − 17,900 − 13,689 (u 193, own h* 290,000 and 310,000) and 125,000 − 5,296 − 3,296 (u 160): the own W of a cell over its right and its left, whatever stands there
-  pub can-give-0 : available before 100 0 ≡ pos 278_411
-  pub can-give-1 : available before 100 1 ≡ pos 116_408
-  pub beside-a-wall : available (lending wall (wanting 0)) 100 0 ≡ pos 278_411
-  -- 116,408 by wants 60,000, 0 and 90,000: floors 46,563, 0 and 69,844, and the unit left goes to the first
-  pub draws-1 : draws before 100 1 ≡ 46_564 ∷ 0 ∷ 0 ∷ 69_844 ∷ []
-  -- the sums are kept: 2,000 and 116,408 have left the second cell, of 125,000
+  -- 310,000 − 17,907 − 13,697 (u 193, own h* 290,000 and 310,000) and 125,000 − 5,299 − 3,299 (u 160): the own W of a cell over its right and its left, whatever stands there
+  pub can-give-0 : available before 100 0 ≡ pos 278_396
+  pub can-give-1 : available before 100 1 ≡ pos 116_402
+  pub beside-a-wall : available (lending wall (wanting 0)) 100 0 ≡ pos 278_396
+  -- 116,402 by wants 60,000, 0 and 90,000: floors 46,560, 0 and 69,841, and the unit left goes to the first
+  pub draws-1 : draws before 100 1 ≡ 46_561 ∷ 0 ∷ 0 ∷ 69_841 ∷ []
+  -- the sums are kept: 2,000 and 116,402 have left the second cell, of 125,000
   pub kept : transports before 100 ≡ false
   pub first : step before 100 ≡ record { refusal = 0; reach = between }
-  -- 6,158 carried and 133,446 drawn are more than 125,000, so a transport comes first, with 2,000 carried and 116,408 drawn. Shares of 500,003 in 125,000: 8,000 to the right, then
-  -- 186,257 and 279,377 to the outlets, floor(500,003·48,564 / 125,000) and floor(500,003·118,408 / 125,000) less those before
+  -- 6,160 carried and 133,448 drawn are more than 125,000, so a transport comes first, with 2,000 carried and 116,402 drawn. Shares of 500,003 in 125,000: 8,000 to the right, then
+  -- 186,245 and 279,365 to the outlets, floor(500,003·48,561 / 125,000) and floor(500,003·118,402 / 125,000) less those before
   pub transported : transports between 100 ≡ true
   pub second : step between 100 ≡ record {
     refusal = 0;
     reach = record {
       bed = pos 0 ∷ pos 20_000 ∷ [];
-      depth = 297_028 ∷ 18_749 ∷ [];
-      discharge = pos 106_156_687 ∷ pos 62_226_346 ∷ [];
-      mass = 927_871 ∷ 68_767 ∷ [];
-      base = 304_849 ∷ 21_196 ∷ [];
-      carried = pos 11_928 ∷ pos 18_749 ∷ pos 4_158 ∷ [];
+      depth = 297_015 ∷ 18_756 ∷ [];
+      discharge = pos 106_191_016 ∷ pos 62_260_539 ∷ [];
+      mass = 927_852 ∷ 68_803 ∷ [];
+      base = 304_844 ∷ 21_206 ∷ [];
+      carried = pos 11_927 ∷ pos 18_756 ∷ pos 4_160 ∷ [];
       cellLength = 1_000;
       held = heldWith (before .held .boundaries) (record {
-        left = record { «water_in» = 22_381; «water_out» = 0; «mass_in» = 73_171; «mass_out» = 0 };
-        right = record { «water_in» = 0; «water_out» = 6_158; «mass_in» = 0; «mass_out» = 8_000 };
-      }) (listed (outlet 1 60_000 6_816 53_380 186_257 ∷ outlet 0 1_000 1_000 2_000 2_903 ∷ outlet 1 0 0 0 0 ∷ outlet 1 90_000 10_222 80_066 279_377 ∷ []));
+        left = record { «water_in» = 22_379; «water_out» = 0; «mass_in» = 73_164; «mass_out» = 0 };
+        right = record { «water_in» = 0; «water_out» = 6_160; «mass_in» = 0; «mass_out» = 8_000 };
+      }) (listed (outlet 1 60_000 6_819 53_380 186_245 ∷ outlet 0 1_000 1_000 2_000 2_903 ∷ outlet 1 0 0 0 0 ∷ outlet 1 90_000 10_227 80_068 279_365 ∷ []));
     };
   }
-  -- with a want of 2,434 alone the 6,158 carried and 118,842 drawn are all of its 125,000: the sums are kept, and what is drawn adds up. With one unit more they are not
-  pub kept-again : transports (wantingLess 2_434) 100 ≡ false
-  pub kept-list : step (wantingLess 2_434) 100 .reach .held .outlets
-      ≡ listed (outlet 1 2_434 48_998 48_998 0 ∷ outlet 0 1_000 2_000 2_000 0 ∷ outlet 1 0 0 0 0 ∷ outlet 1 0 69_844 69_844 0 ∷ [])
-  pub not-kept : transports (wantingLess 2_435) 100 ≡ true
-  -- an outlet's total counts for ground 13: 10^18 − 46,564 has room for what it draws, one unit more has not
-  pub total-met : step (lending fed (wanting 999_999_999_999_953_436)) 100 .refusal ≡ 0
-  pub total-passed : step (lending fed (wanting 999_999_999_999_953_437)) 100 .refusal ≡ 13
+  -- with a want of 2,438 alone the 6,160 carried and 118,840 drawn are all of its 125,000: the sums are kept, and what is drawn adds up. With one unit more they are not
+  pub kept-again : transports (wantingLess 2_438) 100 ≡ false
+  pub kept-list : step (wantingLess 2_438) 100 .reach .held .outlets
+      ≡ listed (outlet 1 2_438 48_999 48_999 0 ∷ outlet 0 1_000 2_000 2_000 0 ∷ outlet 1 0 0 0 0 ∷ outlet 1 0 69_841 69_841 0 ∷ [])
+  pub not-kept : transports (wantingLess 2_439) 100 ≡ true
+  -- an outlet's total counts for ground 13: 10^18 − 46,561 has room for what it draws, one unit more has not
+  pub total-met : step (lending fed (wanting 999_999_999_999_953_439)) 100 .refusal ≡ 0
+  pub total-passed : step (lending fed (wanting 999_999_999_999_953_440)) 100 .refusal ≡ 13

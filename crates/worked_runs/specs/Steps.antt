@@ -60,22 +60,22 @@ transporting = transportingAfter 0
 pub record StepsWorked : Type 0 where
   -- W = 100,000·100·8,000 / 1,000,000 enters at either side, as u is above a
   pub cut-depths : step dry 100 .reach .depth ≡ 80_000 ∷ 80_000 ∷ []
-  -- Q = 10·64,489,648 = 644,896,480, moved to ±8,000·80,000
+  -- Q = 10·64,490,456 = 644,904,560, moved to ±8,000·80,000
   pub cut-discharges : step dry 100 .reach .discharge ≡ pos 640_000_000 ∷ negℤ (pos 640_000_000) ∷ []
-  -- the sums are kept: N is 10,453, 17,314 and 1,998. A transport at this step would leave c = N, base depths 310,000 and 60,000, and masses 1,202,009 and 183,997
+  -- the sums are kept: N is 10,452, 17,320 and 1,998. A transport at this step would leave c = N, base depths 310,000 and 60,000, and masses 1,202,009 and 183,997
   pub kept : transports keeping 100 ≡ false
   pub kept-step : step keeping 100 ≡ record {
     refusal = 0;
     reach = record {
       bed = pos 0 ∷ pos 20_000 ∷ [];
-      depth = 303_139 ∷ 75_316 ∷ [];
-      discharge = pos 86_507_444 ∷ pos 44_754_479 ∷ [];
+      depth = 303_132 ∷ 75_322 ∷ [];
+      discharge = pos 86_526_997 ∷ pos 44_774_406 ∷ [];
       mass = 900_001 ∷ 500_003 ∷ [];
       base = 300_000 ∷ 100_000 ∷ [];
-      carried = pos 78_455 ∷ pos 75_316 ∷ pos 100_000 ∷ [];
+      carried = pos 78_454 ∷ pos 75_322 ∷ pos 100_000 ∷ [];
       cellLength = 1_000;
       held = heldWith (keeping .held .boundaries) (record {
-        left = record { «water_in» = 10_453; «water_out» = 0; «mass_in» = 0; «mass_out» = 0 };
+        left = record { «water_in» = 10_452; «water_out» = 0; «mass_in» = 0; «mass_out» = 0 };
         right = record { «water_in» = 0; «water_out» = 1_998; «mass_in» = 0; «mass_out» = 0 };
       }) noOutlets;
     };
@@ -87,14 +87,14 @@ pub record StepsWorked : Type 0 where
     refusal = 0;
     reach = record {
       bed = pos 0 ∷ pos 20_000 ∷ [];
-      depth = 305_849 ∷ 137_604 ∷ [];
-      discharge = pos 84_116_044 ∷ pos 41_593_262 ∷ [];
+      depth = 305_844 ∷ 137_608 ∷ [];
+      discharge = pos 84_131_853 ∷ pos 41_609_377 ∷ [];
       mass = 1_462_005 ∷ 378_999 ∷ [];
       base = 310_000 ∷ 125_000 ∷ [];
-      carried = pos 10_453 ∷ pos 14_604 ∷ pos 2_000 ∷ [];
+      carried = pos 10_452 ∷ pos 14_608 ∷ pos 2_000 ∷ [];
       cellLength = 1_000;
       held = heldWith (transporting .held .boundaries) (record {
-        left = record { «water_in» = 10_453; «water_out» = 0; «mass_in» = 931_007; «mass_out» = 0 };
+        left = record { «water_in» = 10_452; «water_out» = 0; «mass_in» = 931_007; «mass_out» = 0 };
         right = record { «water_in» = 0; «water_out» = 2_000; «mass_in» = 0; «mass_out» = 490_007 };
       }) noOutlets;
     };

@@ -454,6 +454,9 @@ impl<'a> Reach<'a> {
     }
 
     /// The greatest time step that the record allows now, and where the water is fastest: the highest place among equals.
+    ///
+    /// A step `t` passes where `t * (|u| + a) <= 1000 * cell_length` ([`Refusal::Cfl`]) in each cell and each fed boundary, with the velocity `u`, cut
+    /// towards zero, and the wave speed `a`, the root of 3gh/2 rounded up, both in whole mm/s; g is 9.80665 m/s².
     pub fn greatest_step(&self) -> Result<Greatest, Refusal> {
         let a = call!(jemmyfern_greatest_step, self, as_ptr, as_ptr);
         refused(a.refusal)?;

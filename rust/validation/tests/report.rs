@@ -36,8 +36,8 @@ fn the_lake_stays_exactly_as_it_is() {
     for way in [TWO_STEPS, UPWIND] {
         let outcome = done(&case, way);
         assert_eq!(outcome.start, outcome.end);
-        // the paper's wave speed at 1 m is 3,835 mm/s, so a cell of 200 mm allows 52 ms
-        assert_eq!(outcome.hydrodynamic, 100_000u32.div_ceil(200_000 / 3_835));
+        // the paper's wave speed at 1 m is 3,836 mm/s, so a cell of 200 mm allows 52 ms
+        assert_eq!(outcome.hydrodynamic, 100_000u32.div_ceil(200_000 / 3_836));
     }
     // "it stays equal to one whatever the physical time is"
     assert_eq!(done(&case, TWO_STEPS).transport, 1);

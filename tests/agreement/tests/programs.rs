@@ -199,8 +199,8 @@ fn a_thousand_steps_of_512_cells() {
 #[test]
 fn two_cell_run() {
     let expected = "cells 2\n\
-                    0 907155 242672160 2721465\n\
-                    1 192845 242672160 278535\n\
+                    0 907132 242795920 2721396\n\
+                    1 192868 242795920 278604\n\
                     book 0 0 0 0 0 0 0 0\n";
     for order in COLUMN_ORDERS {
         assert_eq!(

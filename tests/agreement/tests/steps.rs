@@ -329,16 +329,16 @@ fn two_cell_run() {
     let stepped = calls::step(&mut record, 100);
     assert_eq!((stepped.refusal, stepped.settled), (0, false));
     assert_eq!(stepped.book, Book::default());
-    assert_eq!(record.columns.carried, [0, 92_845, 0]);
+    assert_eq!(record.columns.carried, [0, 92_868, 0]);
     let transported = calls::transport(&mut record);
     assert_eq!(
         (transported.refusal, transported.book),
         (0, Book::default())
     );
     let c = &record.columns;
-    assert_eq!(c.depth, [907_155, 192_845]);
-    assert_eq!(c.discharge, [242_672_160, 242_672_160]);
-    assert_eq!(c.nutrient, [2_721_465, 278_535]);
+    assert_eq!(c.depth, [907_132, 192_868]);
+    assert_eq!(c.discharge, [242_795_920, 242_795_920]);
+    assert_eq!(c.nutrient, [2_721_396, 278_604]);
     assert_eq!(c.base, c.depth);
     assert_eq!(c.carried, [0, 0, 0]);
 }

@@ -35,7 +35,7 @@ fn stored_cases_meet_every_ground() {
 #[test]
 fn the_two_cell_run_is_the_papers() {
     let paper =
-        "cells 2\n0 907155 242672160 2721465\n1 192845 242672160 278535\nbook 0 0 0 0 0 0 0 0\n";
+        "cells 2\n0 907132 242795920 2721396\n1 192868 242795920 278604\nbook 0 0 0 0 0 0 0 0\n";
     assert_eq!(read("jemmyfern/stdout"), paper.as_bytes());
     assert_eq!(reference::program(&read("jemmyfern/stdin")), paper);
 }

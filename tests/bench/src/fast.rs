@@ -1,7 +1,7 @@
 //! A water step written for speed, as the opponent of the proved one: nothing is allocated, the checks take one pass and the
 //! fluxes another, the wave speed of a cell is found once, and arithmetic is unchecked in the release profile.
 
-use reference::flux::{reduced_depth, wave_speed, Water};
+use reference::flux::{reduced_depth, speed, Water};
 use reference::record::{
     end_sound, ground, length_sound, outflow, Book, Columns, End, BED_LIMIT, DEEPEST, FASTEST, FED,
     MOST_CELLS, MOST_TOTAL, RICHEST, WALL,
@@ -123,7 +123,7 @@ fn beyond(boundary: &End, cell: Water) -> Water {
             speed: -cell.speed,
             ..cell
         },
-        FED => Water::new(cell.bed, boundary.depth, boundary.discharge),
+        FED => water(cell.bed, boundary.depth, boundary.discharge),
         _ => cell,
     }
 }
@@ -133,7 +133,7 @@ fn beyond(boundary: &End, cell: Water) -> Water {
 fn find(c: &Columns, n: usize, boundaries: &[End; 2], t: u64, x: u64) -> Found {
     let (bed, depth, discharge) = (&c.bed[..n], &c.depth[..n], &c.discharge[..n]);
     let (base, carried) = (&c.base[..n], &c.carried[..n + 1]);
-    let water = |i: usize| Water::new(bed[i], depth[i], discharge[i]);
+    let water = |i: usize| water(bed[i], depth[i], discharge[i]);
     let mut found = Found {
         water: [0; MOST_CELLS + 1],
         discharge: [0; MOST_CELLS],
@@ -180,6 +180,25 @@ fn crossing(t: u64, x: u64, l: &Water, r: &Water) -> Crossing {
         momentum: (momentum_left + momentum_right) as i64,
         left,
         right,
+    }
+}
+
+/// a(h): the least whole number with a square of at least x is one more than the root of what is just below x.
+#[inline]
+pub fn wave_speed(h: u64) -> u64 {
+    if h == 0 {
+        return 0;
+    }
+    ((14_709_975 * h - 1) / 1_000_000).isqrt() + 1
+}
+
+#[inline]
+fn water(bed: i64, depth: u64, discharge: i64) -> Water {
+    Water {
+        bed,
+        depth,
+        speed: speed(depth, discharge),
+        wave: wave_speed(depth),
     }
 }
 

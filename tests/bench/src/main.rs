@@ -64,7 +64,7 @@ fn compare<I: Copy, A, B>(
 
 #[inline(never)]
 fn isqrt(h: u64) -> u64 {
-    (14_709_975 * h / 1_000_000).isqrt()
+    fast::wave_speed(h)
 }
 
 #[inline(never)]

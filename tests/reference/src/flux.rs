@@ -2,8 +2,8 @@
 //!
 //! Arguments lie within a record's limits: h ≤ 4·10^6 µm, |u| ≤ 8,000 mm/s, t ≤ 1,000 ms,
 //! X from 100 to 10^5 mm. Then 64 bits are enough:
-//! a ≤ 7,670 and A ≤ 15,670, so A³ < 4·10^12;
-//! h·t·(A²−B²) ≤ 4·10^6 · 10^3 · 15,670² < 10^18;
+//! a ≤ 7,671 and A ≤ 15,671, so A³ < 4·10^12;
+//! h·t·(A²−B²) ≤ 4·10^6 · 10^3 · 15,671² < 10^18;
 //! K ≤ u² + a²/3 where u ≥ a, and K ≤ 4a²/3 elsewhere, so K < 10^8 and h·t·K < 4·10^17.
 
 /// One body of water beside an interface.
@@ -60,10 +60,17 @@ pub struct Crossing {
     pub still_right: i64,
 }
 
-/// "the greatest whole a with a² ≤ floor(14,709,975·h / 1,000,000)"
+/// Point 3: "the least whole a with 1,000,000·a² at least 14,709,975·h"
 #[inline]
 pub fn wave_speed(h: u64) -> u64 {
-    (14_709_975 * h / 1_000_000).isqrt()
+    let least = 14_709_975 * h;
+    // the greatest a with 1,000,000·a² at most this; the least with as much is it or the next
+    let a = (least / 1_000_000).isqrt();
+    if 1_000_000 * a * a == least {
+        a
+    } else {
+        a + 1
+    }
 }
 
 /// "Speed u = q/h cut towards zero; 0 if h = 0."

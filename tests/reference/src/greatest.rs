@@ -51,7 +51,7 @@ pub fn greatest_step(
         look(i + 1, Water::new(0, c.depth[i], c.discharge[i]).reach());
     }
     look(n + 1, end_reach(&ends[1]));
-    // |u|+a ≤ 8,000+7,670 and 1,000·X ≥ 100,000: t = 1 always meets CFL
+    // |u|+a ≤ 8,000+7,671 and 1,000·X ≥ 100,000: t = 1 always meets CFL
     answer.t = match (1_000 * x).checked_div(fastest) {
         Some(most) => most.min(MOST_T),
         None => MOST_T,

@@ -1,7 +1,6 @@
 -- `figures::figures_met` meets its contract: every figure is computed from the definitions. Assumes nothing.
 use mathlib.Core.Path.{refl}
-use Rattle.numbers.specs.Search.{climb}
-use Rattle.numbers.specs.Root.{squareRoot}
+use Rattle.numbers.specs.Search.{climb, leastReaching}
 use Rattle.numbers.specs.Shares.{share, shares, rest}
 use Rattle.flux.specs.Wave.{waveSpeed}
 use Rattle.flux.specs.Crossing.{upper, lower, waterOf, waterFlux, secondMoment, momentumOf, momentumFlux}
@@ -9,7 +8,7 @@ use Rattle.figures.proofs.figures_met.Statement.{statement}
 use Rattle.figures.proofs.figures_met.Tie as tie
 
 returns : tie.Need-returns
-unfolding waveSpeed squareRoot climb waterFlux waterOf momentumFlux momentumOf secondMoment upper lower shares share rest
+unfolding waveSpeed climb leastReaching waterFlux waterOf momentumFlux momentumOf secondMoment upper lower shares share rest
 returns c =
     record {
       a-dry = refl;

@@ -1,7 +1,6 @@
 -- `worked::flux_worked` meets its contract: every value is computed from the definitions. Assumes nothing.
 use mathlib.Core.Path.{refl}
-use Rattle.numbers.specs.Root.{squareRoot}
-use Rattle.numbers.specs.Search.{climb}
+use Rattle.numbers.specs.Search.{climb, leastReaching}
 use Rattle.flux.specs.Crossing.{upper, lower, waterOf, waterFlux, secondMoment, momentumOf, momentumFlux, stillThrust}
 use Rattle.flux.specs.Velocity.{velocity}
 use Rattle.flux.specs.Wave.{waveSpeed}
@@ -9,7 +8,7 @@ use Rattle.worked.proofs.flux_worked.Statement.{statement}
 use Rattle.worked.proofs.flux_worked.Tie as tie
 
 returns : tie.Need-returns
-unfolding squareRoot climb upper lower waterOf waterFlux secondMoment momentumOf momentumFlux stillThrust velocity waveSpeed
+unfolding climb leastReaching upper lower waterOf waterFlux secondMoment momentumOf momentumFlux stillThrust velocity waveSpeed
 returns c =
     record {
       velocity-cut = refl;

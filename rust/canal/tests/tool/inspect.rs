@@ -102,7 +102,7 @@ fn the_longest_step_is_not_set_by_slow_water() {
     }
 }
 
-/// Still water a metre deep runs at 3835 mm/s, a fed boundary's as a cell's.
+/// Still water a metre deep runs at 3836 mm/s, a fed boundary's as a cell's.
 #[test]
 fn among_equals_the_highest_place_is_named() {
     let fed = Boundary::fed(1_000_000, 0, 0);

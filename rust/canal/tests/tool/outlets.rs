@@ -77,14 +77,14 @@ fn a_line_that_is_no_outlet_is_named() {
     }
 }
 
-/// By hand from the paper: W is 95,875 in cell 0 and 3,030 in cell 1, towards the wall too, so the cells can give 808,250 and 93,940. The two outlets
-/// of cell 1 want 3,000,000 of it: 62,626 and 31,313 by the floors, and the unit left goes to the first of them. Of the mass of cell 0 the right has
-/// floor(3 * 92,845), and the outlet floor(3 * 93,145) less that.
+/// By hand from the paper: W is 95,900 in cell 0 and 3,032 in cell 1, towards the wall too, so the cells can give 808,200 and 93,936. The two outlets
+/// of cell 1 want 2,900,000 of it: 64,783 and 29,152 by the floors, and the unit left goes to the first of them. Of the mass of cell 0 the right has
+/// floor(3 * 92,868), and the outlet floor(3 * 93,168) less that.
 #[test]
 fn outlets_of_the_two_cell_run() {
     let (after, list) = (
         file("outlets_two.sheet"),
-        list("outlets_two.txt", "0 300\n1 2000000\n1 1000000\n"),
+        list("outlets_two.txt", "0 300\n1 2000000\n1 900000\n"),
     );
     let out = ["--for", "100ms", "--step", "100", "--out", text(&after)];
     let answer = run_with(&two_cells(), &list, &out);
@@ -95,8 +95,8 @@ fn outlets_of_the_two_cell_run() {
         "0.1 s of canal time: 1 step, 1 transport (the last one at the end)"
     );
     assert_eq!(lines[2], "held before 1100000 1.1 3000000 0.003");
-    assert_eq!(lines[7], "drawn by outlets 94240 0.09424 900 0.0000009");
-    assert_eq!(lines[8], "held after 1005760 1.00576 2999100 0.0029991");
+    assert_eq!(lines[7], "drawn by outlets 94236 0.094236 900 0.0000009");
+    assert_eq!(lines[8], "held after 1005764 1.005764 2999100 0.0029991");
     assert_eq!(
         lines[9],
         "The balance closes: held before + in - out - drawn = held after."
@@ -105,8 +105,8 @@ fn outlets_of_the_two_cell_run() {
         "",
         "drawn by outlets water: µm m³/m mass: grains g/m",
         "cell 0, wanting 300 µm a step 300 0.0003 900 0.0000009",
-        "cell 1, wanting 2000000 µm a step 62627 0.062627 0 0",
-        "cell 1, wanting 1000000 µm a step 31313 0.031313 0 0",
+        "cell 1, wanting 2000000 µm a step 64784 0.064784 0 0",
+        "cell 1, wanting 900000 µm a step 29152 0.029152 0 0",
         "A want is of a step: the same outlet draws more in shorter steps.",
     ];
     assert_eq!(lines[13..], drawn);
@@ -114,7 +114,7 @@ fn outlets_of_the_two_cell_run() {
     let rows: Vec<&str> = shown.text().lines().skip(5).collect();
     assert_eq!(
         rows,
-        ["0 906855 242672160 2720565", "0 98905 242672160 278535"]
+        ["0 906832 242795920 2720496", "0 98932 242795920 278604"]
     );
 }
 

@@ -60,7 +60,7 @@ fn the_figures_of_the_paper() {
     let rows: Vec<&str> = shown.text().lines().skip(5).collect();
     assert_eq!(
         rows,
-        ["0 907155 242672160 2721465", "0 192845 242672160 278535"]
+        ["0 907132 242795920 2721396", "0 192868 242795920 278604"]
     );
 }
 

@@ -5,11 +5,10 @@ use reference::flux::{
 };
 use reference::random::Random;
 
-/// Searched upwards from 0.
-fn searched_wave_speed(h: u64) -> u64 {
-    let square = 14_709_975 * h / 1_000_000;
+/// Searched upwards from 0: the first a that is enough.
+pub fn searched_wave_speed(h: u64) -> u64 {
     let mut a = 0;
-    while (a + 1) * (a + 1) <= square {
+    while 1_000_000 * a * a < 14_709_975 * h {
         a += 1;
     }
     a
@@ -26,10 +25,10 @@ fn wave_speed_is_the_upward_search_at_random_depths() {
 
 #[test]
 fn wave_speed_is_the_upward_search_at_every_depth() {
-    // the root only rises, so the search goes on from the last depth's
+    // the speed only rises, so the search goes on from the last depth's
     let mut a = 0;
     for h in 0..=4_000_000 {
-        while (a + 1) * (a + 1) <= 14_709_975 * h / 1_000_000 {
+        while 1_000_000 * a * a < 14_709_975 * h {
             a += 1;
         }
         assert_eq!(wave_speed(h), a, "h {h}");
@@ -65,6 +64,28 @@ fn amounts_match_wide_arithmetic_up_to_the_limits() {
         assert_eq!(both.water, water(t, x, h, u));
         assert_eq!(both.momentum, momentum(t, x, h, u));
         assert_eq!(both.still, still(t, x, h));
+    }
+}
+
+/// "no depth may go below zero under it": the two outgoing W of a cell, each of its depth or less,
+/// fit the depth in the greatest step of CFL.
+#[test]
+fn both_outgoing_amounts_fit_the_depth() {
+    let mut r = Random::new(27);
+    for _ in 0..20_000 {
+        let most = r.pick(&[1, 20, 2_000, 4_000_000]);
+        let h = 1 + r.below(most);
+        let (any_left, any_right) = (r.below(h + 1), r.below(h + 1));
+        let (left, right) = (r.pick(&[h, any_left]), r.pick(&[h, any_right]));
+        let fastest = r.pick(&[5, 300, 8_000]);
+        let u = r.between(-fastest, fastest);
+        let x = r.pick(&[100, 999, 100_000]);
+        let t = (1_000 * x / (u.unsigned_abs() + searched_wave_speed(h))).min(1_000);
+        let out = water(t, x, left, -u) + water(t, x, right, u);
+        assert!(
+            out <= h,
+            "h {h}, {left}, {right}, u {u}, t {t}, X {x}: {out}"
+        );
     }
 }
 

@@ -71,12 +71,12 @@ fn still_push_is_not_half_g_h_squared() {
     // 9.80665·h²·t / (2,000·X) for a metre of water
     let textbook: u64 = 980_665 * 10_000_000 * 100 / (2_000 * 1_000);
     assert_eq!(textbook, 490_332_500);
-    assert_eq!(still(100, 1_000, 1_000_000), 490_240_800);
+    assert_eq!(still(100, 1_000, 1_000_000), 490_496_400);
 }
 
 #[test]
 fn each_amount_is_floored_not_their_difference() {
-    // 3.025 rightwards and 2.97 leftwards: 3 − 2 = 1, where floor(0.055) = 0
+    // 3.05 rightwards and 2.99475 leftwards: 3 − 2 = 1, where floor(0.05525) = 0
     let mut reach = settled(1_000, [WALL_END; 2], &[(0, 1_000, 0, 0), (0, 990, 0, 0)]);
     assert_eq!(step(&mut reach, 100).refusal, 0);
     assert_eq!(reach.columns.carried, [0, 1, 0]);

@@ -1,4 +1,4 @@
-//! "Figures to meet".
+//! "Figures to meet", with the wave speed of point 3.
 
 use reference::flux::{momentum, water, wave_speed};
 use reference::program;
@@ -11,14 +11,14 @@ use crate::support::{settled, step, two_cells, WALL_END};
 #[test]
 fn wave_speeds() {
     let found = [0, 1, 100_000, 1_000_000, 4_000_000].map(wave_speed);
-    assert_eq!(found, [0, 3, 1_212, 3_835, 7_670]);
+    assert_eq!(found, [0, 4, 1_213, 3_836, 7_671]);
 }
 
 #[test]
 fn crossing_amounts() {
-    assert_eq!(water(100, 1_000, 1_000_000, 0), 95_875);
-    assert_eq!(momentum(100, 1_000, 1_000_000, 0), 245_120_400);
-    assert_eq!(water(100, 1_000, 100_000, 0), 3_030);
+    assert_eq!(water(100, 1_000, 1_000_000, 0), 95_900);
+    assert_eq!(momentum(100, 1_000, 1_000_000, 0), 245_248_200);
+    assert_eq!(water(100, 1_000, 100_000, 0), 3_032);
 }
 
 #[test]
@@ -54,8 +54,8 @@ fn two_cell_run() {
     input.extend(1u32.to_le_bytes());
     input.extend(100u32.to_le_bytes());
     let text = "cells 2\n\
-                0 907155 242672160 2721465\n\
-                1 192845 242672160 278535\n\
+                0 907132 242795920 2721396\n\
+                1 192868 242795920 278604\n\
                 book 0 0 0 0 0 0 0 0\n";
     assert_eq!(program(&input), text);
 }

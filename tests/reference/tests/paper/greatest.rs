@@ -3,6 +3,7 @@
 use reference::random::{any_record, record, Random, Record};
 use reference::{greatest_step, End};
 
+use crate::amounts::searched_wave_speed;
 use crate::support::{fed_end, open_end, settled, WALL_END};
 
 fn greatest(record: &Record) -> (u64, usize) {
@@ -18,11 +19,11 @@ fn greatest(record: &Record) -> (u64, usize) {
     (answer.t, answer.place)
 }
 
-/// Depth and discharge of 2,000 mm/s at rest: 2,000² ≤ 4,001,113 < 2,001².
-const FAST: (u64, i64) = (272_000, 0);
-/// 1,500 mm/s, as 1,500² ≤ 2,250,626 < 1,501², and 500 mm/s leftwards: 2,000 too.
-const SWEPT: (u64, i64) = (153_000, -76_500_000);
-/// 1,212 mm/s
+/// Depth and discharge of 2,000 mm/s at rest: 1,999² < 14.709975·271,900 ≤ 2,000².
+const FAST: (u64, i64) = (271_900, 0);
+/// 1,500 mm/s, as 1,499² < 14.709975·152,900 ≤ 1,500², and 500 mm/s leftwards: 2,000 too.
+const SWEPT: (u64, i64) = (152_900, -76_450_000);
+/// 1,213 mm/s
 const SLOW: (u64, i64) = (100_000, 0);
 const DRY: (u64, i64) = (0, 0);
 
@@ -79,8 +80,8 @@ fn place_is_the_last_of_the_fastest() {
         let sound = any_record(&mut r);
         let c = &sound.columns;
         let reach = |h: u64, q: i64| {
-            let u = if h == 0 { 0 } else { (q / h as i64).abs() };
-            u + (14_709_975 * h as i64 / 1_000_000).isqrt()
+            let u = if h == 0 { 0 } else { q / h as i64 };
+            u.unsigned_abs() + searched_wave_speed(h)
         };
         let at_end = |k: usize| match sound.ends[k].kind {
             2 => reach(sound.ends[k].depth, sound.ends[k].discharge),
@@ -153,7 +154,7 @@ fn dry_reach_answers_1000_at_the_right_end() {
     }
 }
 
-/// 3 mm/s, the slowest there is, is above what a dry place counts.
+/// 4 mm/s, the slowest there is, is above what a dry place counts.
 #[test]
 fn slowest_water_is_named_before_dry_places() {
     let film = (1, 0);
@@ -189,6 +190,15 @@ fn fed_ends_count_and_others_do_not() {
     let faster = fed_end(1_000, -1_000, 0);
     assert_eq!(greatest(&settled(100, [faster, end], &cells)).1, 0);
     assert_eq!(greatest(&settled(100, [WALL_END, faster], &cells)).1, 3);
+}
+
+/// Speeds of 2,000 and 100, rounded down, would allow 500 and 1,000.
+#[test]
+fn step_is_that_of_a_speed_rounded_up() {
+    // 1,000,000/2,001 = 499.8 and 100,000/101 = 990.1
+    assert_eq!(reach([WALL_END; 2], &[(272_000, 0)]), (499, 1));
+    let film = settled(100, [WALL_END; 2], &[(0, 680, 0, 0)]);
+    assert_eq!(greatest(&film), (990, 1));
 }
 
 #[test]

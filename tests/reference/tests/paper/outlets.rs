@@ -1,7 +1,7 @@
 //! Outlets along the reach, by numbers worked out by hand.
 //!
 //! In cells of 100,000 mm a step of 1 ms moves none of a few micrometres, so all of them can be
-//! given: W(10, 0) = floor(10·1·12² / (4,000·12·100,000)) = 0.
+//! given: W(10, 0) = floor(10·1·13² / (4,000·13·100,000)) = 0.
 
 use reference::outlet::give;
 use reference::random::Record;
@@ -85,31 +85,31 @@ fn each_cell_gives_to_its_own_outlets() {
 
 #[test]
 fn water_towards_a_wall_cannot_be_given() {
-    // W(1,000,000, 0) = 95,875 to either side: 1,000,000 − 191,750 = 808,250, though N is 0
+    // W(1,000,000, 0) = 95,900 to either side: 1,000,000 − 191,800 = 808,200, though N is 0
     let cell = [(0, 1_000_000, 0, 0)];
     let mut basin = settled(1_000, [WALL_END; 2], &cell);
     basin.outlets = vec![Outlet::new(0, 1_000_000)];
     assert_eq!(step(&mut basin, 100).refusal, 0);
-    assert_eq!(drawn(&basin), [808_250]);
-    assert_eq!(basin.columns.depth, [191_750]);
+    assert_eq!(drawn(&basin), [808_200]);
+    assert_eq!(basin.columns.depth, [191_800]);
     assert_eq!(basin.columns.carried, [0, 0]);
 }
 
 #[test]
 fn water_that_comes_in_cannot_be_given() {
-    // the dry cell gets 95,875 and gives nothing; the other gives 808,250 of 808,251
+    // the dry cell gets 95,900 and gives nothing; the other gives 808,200 of 808,201
     let cells = [(0, 1_000_000, 0, 0), (0, 0, 0, 0)];
     let mut reach = settled(1_000, [WALL_END; 2], &cells);
-    reach.outlets = vec![Outlet::new(1, 5), Outlet::new(0, 808_251)];
+    reach.outlets = vec![Outlet::new(1, 5), Outlet::new(0, 808_201)];
     assert_eq!(step(&mut reach, 100).refusal, 0);
-    assert_eq!(drawn(&reach), [0, 808_250]);
-    // 1,000,000 − 95,875 − 808,250
-    assert_eq!(reach.columns.depth, [95_875, 95_875]);
+    assert_eq!(drawn(&reach), [0, 808_200]);
+    // 1,000,000 − 95,900 − 808,200
+    assert_eq!(reach.columns.depth, [95_900, 95_900]);
 }
 
 #[test]
 fn drawing_comes_before_the_cut_of_the_discharge() {
-    // speed 8,000, wave speed 12: W = floor(10·(8,012²−7,988²) / 4,800,000,000) = 0, so 9 of 10
+    // speed 8,000, wave speed 13: W = floor(10·(8,013²−7,987²) / 5,200,000,000) = 0, so 9 of 10
     // can be drawn; q' is a little under 80,000, and 8,000·1 is the most that is left
     for (way, want, q) in [(1, 9, 8_000), (-1, 9, -8_000), (1, 10, 0)] {
         let cell = [(0, 10, way * 80_000, 0)];
@@ -123,10 +123,10 @@ fn drawing_comes_before_the_cut_of_the_discharge() {
 
 #[test]
 fn drawing_comes_before_the_depth_check() {
-    // a(4,000,000) = 7,670: W at 2,000 mm/s = floor(9,670²/76.7) = 1,219,151, at rest
-    // 7,670²/76.7 = 767,000, so 452,151 come in and 4,000,000 − 2·767,000 can be given
+    // a(4,000,000) = 7,671: W at 2,000 mm/s = floor(9,671²/76.71) = 1,219,244, at rest
+    // 7,671²/76.71 = 767,100, so 452,144 come in and 4,000,000 − 2·767,100 can be given
     let ends = [fed_end(4_000_000, 2_000 * 4_000_000, 0), WALL_END];
-    for (want, refusal) in [(452_150, 12), (452_151, 0), (0, 12)] {
+    for (want, refusal) in [(452_143, 12), (452_144, 0), (0, 12)] {
         let mut full = settled(1_000, ends, &[(0, 4_000_000, 0, 0)]);
         full.outlets = vec![Outlet::new(0, want)];
         let before = full.clone();

@@ -60,11 +60,11 @@ fn outflow_equal_to_the_base_is_kept_and_one_more_settles() {
 
 #[test]
 fn cfl_may_be_met_exactly() {
-    // 500·7,670 = 1,000·3,835
-    let mut cell = settled(3_835, [WALL_END; 2], &[(0, 4_000_000, 0, 0)]);
-    assert_eq!(step(&mut cell, 501).refusal, 11);
-    assert_eq!(step(&mut cell, 500).refusal, 0);
+    // 250·3,836 = 1,000·959
+    let mut cell = settled(959, [WALL_END; 2], &[(0, 1_000_000, 0, 0)]);
+    assert_eq!(step(&mut cell, 251).refusal, 11);
+    assert_eq!(step(&mut cell, 250).refusal, 0);
     let c = &cell.columns;
     let answer = reference::greatest_step(c, &cell.outlets, cell.x, cell.ends, cell.book);
-    assert_eq!(answer.t, 500);
+    assert_eq!(answer.t, 250);
 }

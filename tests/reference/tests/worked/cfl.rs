@@ -53,30 +53,32 @@ fn greatest(record: &Record, t: u16, place: u16) {
 fn cfl_at_equality() {
     let fed = End {
         kind: 2,
-        depth: 272_000,
+        depth: 271_900,
         ..WALL
     };
     let open = End { kind: 1, ..WALL };
-    assert_eq!(wave_speed(272_000), 2_000);
-    equality(&one_cell(272_000, 0, [WALL, WALL]), 500, 1);
-    equality(&one_cell(272_000, -136_000_000, [WALL, WALL]), 400, 1);
+    assert_eq!(wave_speed(271_900), 2_000);
+    equality(&one_cell(271_900, 0, [WALL, WALL]), 500, 1);
+    assert_eq!(wave_speed(272_000), 2_001);
+    equality(&one_cell(272_000, 0, [WALL, WALL]), 499, 1);
+    equality(&one_cell(271_900, -135_950_000, [WALL, WALL]), 400, 1);
     equality(&one_cell(100_000, 0, [fed, WALL]), 500, 0);
-    equality(&one_cell(272_000, 0, [fed, WALL]), 500, 1);
+    equality(&one_cell(271_900, 0, [fed, WALL]), 500, 1);
     equality(&one_cell(100_000, 0, [WALL, fed]), 500, 2);
-    equality(&one_cell(272_000, 0, [WALL, fed]), 500, 2);
-    equality(&one_cell(272_000, 0, [open, WALL]), 500, 1);
-    equality(&one_cell(272_000, 0, [WALL, open]), 500, 1);
+    equality(&one_cell(271_900, 0, [WALL, fed]), 500, 2);
+    equality(&one_cell(271_900, 0, [open, WALL]), 500, 1);
+    equality(&one_cell(271_900, 0, [WALL, open]), 500, 1);
     let flowing = End {
-        discharge: -136_000_000,
+        discharge: -135_950_000,
         ..fed
     };
     equality(&one_cell(100_000, 0, [flowing, WALL]), 400, 0);
     let away = End {
-        discharge: 136_000_000,
+        discharge: 135_950_000,
         ..fed
     };
     equality(&one_cell(100_000, 0, [WALL, away]), 400, 2);
-    let pair = [100_000, 272_000, 272_000, 100_000, 100_000];
+    let pair = [100_000, 271_900, 271_900, 100_000, 100_000];
     equality(&at_rest(&pair, [WALL, WALL]), 500, 3);
     equality(&at_rest(&[100_000; 3], [fed, fed]), 500, 4);
 }
@@ -98,7 +100,7 @@ fn cfl_of_a_dry_reach() {
 fn cfl_of_a_pit() {
     let bank = (300_000, 0, 0, 0, 0);
     let pit = Record {
-        columns: columns(&[bank, (0, 272_000, 0, 0, 272_000), bank], &[0, 0, 0, 0]),
+        columns: columns(&[bank, (0, 271_900, 0, 0, 271_900), bank], &[0, 0, 0, 0]),
         outlets: vec![],
         x: 1_000,
         ends: [WALL, WALL],

@@ -48,38 +48,38 @@ fn two_steps_with_outlets() {
     let answer = step(&mut r, 100);
     assert_eq!((answer.refusal, answer.settled), (0, false));
     let cells = [
-        (0, 304_849, 84_116_044, 900_001, 310_000),
-        (20_000, 21_196, 41_593_262, 500_003, 125_000),
+        (0, 304_844, 84_131_853, 900_001, 310_000),
+        (20_000, 21_206, 41_609_377, 500_003, 125_000),
     ];
-    assert_eq!(r.columns, columns(&cells, &[10_453, 14_604, 2_000]));
+    assert_eq!(r.columns, columns(&cells, &[10_452, 14_608, 2_000]));
     assert_eq!(
         amounts(&r),
         [
-            [46_564, 46_564, 0],
+            [46_561, 46_561, 0],
             [1_000, 1_000, 0],
             [0; 3],
-            [69_844, 69_844, 0]
+            [69_841, 69_841, 0]
         ]
     );
-    assert_eq!(r.book, book([10_453, 0, 0, 0], [0, 2_000, 0, 0]));
+    assert_eq!(r.book, book([10_452, 0, 0, 0], [0, 2_000, 0, 0]));
 
     let answer = step(&mut r, 100);
     assert_eq!((answer.refusal, answer.settled), (0, true));
     let cells = [
-        (0, 297_028, 106_156_687, 927_871, 304_849),
-        (20_000, 18_749, 62_226_346, 68_767, 21_196),
+        (0, 297_015, 106_191_016, 927_852, 304_844),
+        (20_000, 18_756, 62_260_539, 68_803, 21_206),
     ];
-    assert_eq!(r.columns, columns(&cells, &[11_928, 18_749, 4_158]));
+    assert_eq!(r.columns, columns(&cells, &[11_927, 18_756, 4_160]));
     assert_eq!(
         amounts(&r),
         [
-            [6_816, 53_380, 186_257],
+            [6_819, 53_380, 186_245],
             [1_000, 2_000, 2_903],
             [0; 3],
-            [10_222, 80_066, 279_377]
+            [10_227, 80_068, 279_365]
         ]
     );
-    assert_eq!(r.book, book([22_381, 0, 73_171, 0], [0, 6_158, 0, 8_000]));
+    assert_eq!(r.book, book([22_379, 0, 73_164, 0], [0, 6_160, 0, 8_000]));
 }
 
 #[test]
@@ -92,23 +92,23 @@ fn what_was_drawn_and_is_drawn_fill_the_base() {
         let settled = step(&mut r, 100).settled;
         (settled, amounts(&r))
     };
-    let (settled, left) = second(2_434);
+    let (settled, left) = second(2_438);
     assert!(!settled);
     assert_eq!(
         left,
         [
-            [48_998, 48_998, 0],
+            [48_999, 48_999, 0],
             [2_000, 2_000, 0],
             [0; 3],
-            [69_844, 69_844, 0]
+            [69_841, 69_841, 0]
         ]
     );
-    assert!(second(2_435).0);
+    assert!(second(2_439).0);
 }
 
 #[test]
 fn what_an_outlet_draws_counts_for_13() {
     let refused = |water| step(&mut lending(water), 100).refusal;
-    assert_eq!(refused(1_000_000_000_000_000_000 - 46_564), 0);
-    assert_eq!(refused(1_000_000_000_000_000_000 - 46_563), 13);
+    assert_eq!(refused(1_000_000_000_000_000_000 - 46_561), 0);
+    assert_eq!(refused(1_000_000_000_000_000_000 - 46_560), 13);
 }

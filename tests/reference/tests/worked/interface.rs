@@ -29,15 +29,15 @@ fn amounts_over_the_step() {
     let beyond = Water::new(30_000, 20_000, -2_000_000);
     assert_eq!((before.speed, beyond.speed), (500, -100));
     let crossing = interface(70, 1_030, before, beyond);
-    assert_eq!((crossing.water, crossing.push), (2_430, 2_824_202));
+    assert_eq!((crossing.water, crossing.push), (2_431, 2_827_216));
 }
 
 #[test]
 fn cells_beside_the_step() {
     let mut r = over_step((100_000, 50_000_000), (20_000, -2_000_000));
     assert_eq!(step(&mut r, 70).refusal, 0);
-    assert_eq!(r.columns.depth, [97_570, 22_430]);
-    assert_eq!(r.columns.discharge, [46_153_202, 752_020]);
+    assert_eq!(r.columns.depth, [97_569, 22_431]);
+    assert_eq!(r.columns.discharge, [46_150_208, 754_678]);
 }
 
 #[test]

@@ -58,11 +58,11 @@ fn a_step_that_keeps_the_sums() {
     let answer = step(&mut r, 100);
     assert_eq!((answer.refusal, answer.settled), (0, false));
     let cells = [
-        (0, 303_139, 86_507_444, 900_001, 300_000),
-        (20_000, 75_316, 44_754_479, 500_003, 100_000),
+        (0, 303_132, 86_526_997, 900_001, 300_000),
+        (20_000, 75_322, 44_774_406, 500_003, 100_000),
     ];
-    assert_eq!(r.columns, columns(&cells, &[78_455, 75_316, 100_000]));
-    assert_eq!(r.book, book([10_453, 0, 0, 0], [0, 1_998, 0, 0]));
+    assert_eq!(r.columns, columns(&cells, &[78_454, 75_322, 100_000]));
+    assert_eq!(r.book, book([10_452, 0, 0, 0], [0, 1_998, 0, 0]));
 }
 
 /// After so much nutrient came in at the left.
@@ -85,12 +85,12 @@ fn a_step_that_settles_first() {
     let answer = step(&mut r, 100);
     assert_eq!((answer.refusal, answer.settled), (0, true));
     let cells = [
-        (0, 305_849, 84_116_044, 1_462_005, 310_000),
-        (20_000, 137_604, 41_593_262, 378_999, 125_000),
+        (0, 305_844, 84_131_853, 1_462_005, 310_000),
+        (20_000, 137_608, 41_609_377, 378_999, 125_000),
     ];
-    assert_eq!(r.columns, columns(&cells, &[10_453, 14_604, 2_000]));
+    assert_eq!(r.columns, columns(&cells, &[10_452, 14_608, 2_000]));
     assert_eq!(
         r.book,
-        book([10_453, 0, 931_007, 0], [0, 2_000, 0, 490_007])
+        book([10_452, 0, 931_007, 0], [0, 2_000, 0, 490_007])
     );
 }
