@@ -1,0 +1,2 @@
+pub mod Friction
+pub mod Ranges

@@ -1,0 +1,76 @@
+// Friction of the bed (document 02, point 4): what Strickler's term leaves of a discharge.
+pub mod table;
+
+ghost use mathlib.Core.Path.{_≡_};
+ghost use Prim.Native.Nat.{_+_, _*_, _/_, _≤_, _<_, min};
+ghost use lib.IntN.{subℕ};
+ghost use Rattle.flux.specs.Limits.{velocityMost, timeStepMost};
+ghost use Rattle.friction.specs.Friction.{stricklerFits, centimetres, conveyanceSquared, drag, slowedBy};
+ghost use Rattle.friction.specs.Ranges.{tableMost, stricklerMost, conveyanceSquaredMost, dragMost, pushedMost, Roots};
+use numbers::signed::Parts;
+use table::root_of;
+
+// Whether a coefficient is allowed: 0, or 10 to 90
+pub fn strickler_fits(f: u64) -> bool
+    ensures { λ r. ⌜ r ≡ stricklerFits f ⌝ }
+{
+    if f == 0 {
+        return true;
+    }
+    if f < 10 {
+        return false;
+    }
+    f <= 90
+}
+
+// D of a depth h
+pub fn conveyance_squared(f: u64, h: u64, roots: &[u16; 401]) -> u64
+    requires { ⌜ (f ≤ stricklerMost) × Roots (now roots) ⌝ }
+    ensures { λ r. ⌜ (r ≡ conveyanceSquared f (min (centimetres h) tableMost)) × (r ≤ conveyanceSquaredMost) ⌝ }
+{
+    if f == 0 {
+        return 0;
+    }
+    f * f * root_of(h / 10_000, roots)
+}
+
+// E of a speed v
+pub fn drag_of(t: u64, v: u64) -> u64
+    requires { ⌜ (t ≤ timeStepMost) × (v ≤ velocityMost) ⌝ }
+    ensures { λ r. ⌜ (r ≡ drag t v) × (r ≤ dragMost) ⌝ }
+{
+    45_518 * t * v / 1_000_000
+}
+
+// floor(s·d / (d + e)), as s less what is lost of it, rounded up: s·d would pass 64 bits, s·e does not
+fn kept(s: u64, d: u64, e: u64) -> u64
+    requires { ⌜ (s ≤ pushedMost) × ((0 < d) × ((d ≤ conveyanceSquaredMost) × (e ≤ dragMost))) ⌝ }
+    ensures { λ r. ⌜ r ≡ s * d / (d + e) ⌝ }
+{
+    let whole = d + e;
+    s - (s * e + (whole - 1)) / whole
+}
+
+// The discharge p after friction, by D and E
+pub fn slow(f: u64, d: u64, e: u64, p: Parts) -> Parts
+    requires { ⌜ (d ≤ conveyanceSquaredMost) × (e ≤ dragMost) ⌝ }
+    requires { ⌜ (p .right ≤ pushedMost) × (p .left ≤ pushedMost) ⌝ }
+    ensures { λ r. ⌜ subℕ (r .right) (r .left) ≡ slowedBy f d e (subℕ (p .right) (p .left)) ⌝ }
+{
+    if f == 0 {
+        return p;
+    }
+    if d == 0 {
+        return Parts { right: 0, left: 0 };
+    }
+    if p.left < p.right {
+        return Parts {
+            right: kept(p.right - p.left, d, e),
+            left: 0,
+        };
+    }
+    Parts {
+        right: 0,
+        left: kept(p.left - p.right, d, e),
+    }
+}
