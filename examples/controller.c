@@ -1,9 +1,9 @@
 /* A controller's loop: opens a sheet, follows an hour of canal time with the greatest steps, changes the dose at the head twice, prints what passed
  * the boundaries, writes the sheet and opens it again. What it prints keeps the paper's words: a settling is a transport, nutrient is mass.
  * With WANT two outlets, a third and two thirds down the reach, each want so many micrometres per step until the second dose, when the first of
- * them is closed.
+ * them is closed. With STRICKLER the bed has friction of that coefficient, 10 to 90; 0 is none.
  *
- *     controller IN.sheet OUT.sheet [WANT]
+ *     controller IN.sheet OUT.sheet [WANT [STRICKLER]]
  */
 #include "jemmyfern.h"
 
@@ -83,10 +83,11 @@ static int same_record(const struct reach *a, const struct reach *b)
 
 int main(int argc, char **argv)
 {
-    char *end = "";
-    uint64_t want = argc == 4 ? strtoull(argv[3], &end, 10) : 0;
-    if ((argc != 3 && argc != 4) || *end != '\0') {
-        fprintf(stderr, "usage: controller IN.sheet OUT.sheet [WANT]\n");
+    char *want_end = "", *strickler_end = "";
+    uint64_t want = argc >= 4 ? strtoull(argv[3], &want_end, 10) : 0;
+    uint64_t strickler = argc == 5 ? strtoull(argv[4], &strickler_end, 10) : 0;
+    if (argc < 3 || argc > 5 || *want_end != '\0' || *strickler_end != '\0') {
+        fprintf(stderr, "usage: controller IN.sheet OUT.sheet [WANT [STRICKLER]]\n");
         return 2;
     }
     FILE *in = fopen(argv[1], "rb");
@@ -97,7 +98,7 @@ int main(int argc, char **argv)
     size_t length = fread(sheet, 1, sizeof sheet, in);
     fclose(in);
 
-    if (argc == 4) {
+    if (argc >= 4) {
         size_t n = jemmyfern_cells(sheet, length);
         for (size_t k = 0; k < 2; k++)
             reach.outlets[k] = (jemmyfern_outlet){.cell = (k + 1) * n / 3, .want = want};
@@ -130,7 +131,7 @@ int main(int argc, char **argv)
             return refused("greatest step", g.refusal);
         uint64_t left = HOUR_MS - elapsed;
         uint64_t t = g.time < left ? g.time : left;
-        jemmyfern_stepped s = jemmyfern_step(COLUMNS(&reach), reach.cell_length, reach.boundaries, reach.ledger, t);
+        jemmyfern_stepped s = jemmyfern_step(COLUMNS(&reach), reach.cell_length, reach.boundaries, reach.ledger, t, strickler);
         if (s.refusal != 0)
             return refused("step", s.refusal);
         reach.boundaries = s.boundaries;

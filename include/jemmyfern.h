@@ -1,8 +1,8 @@
 /* A reach of an irrigation canal in whole units: the six proved calls, for C.
  *
- * The reach is straight and rectangular, n equal cells between two boundaries, per metre of width, without friction and without inflow along it; up
- * to 32 outlets draw water from its cells. Its record is six arrays, a list of outlets, a cell length, two boundaries and a ledger; all of it is
- * the caller's. Without outlets the list is NULL, 0.
+ * The reach is straight and rectangular, n equal cells between two boundaries, per metre of width, without inflow along it; up to 32 outlets draw
+ * water from its cells. Its record is six arrays, a list of outlets, a cell length, two boundaries and a ledger; all of it is the caller's. Without
+ * outlets the list is NULL, 0. Friction of the bed is no part of it: each step is given its own, 0 for none.
  *
  * The words are those of the field. Where the paper that describes the model has another, it stands once in quotes at the definition; the
  * README's glossary pairs them all.
@@ -18,6 +18,7 @@
  *   concentration          micrograms per litre; of a cell it is mass / base depth, and there is none where the base depth is 0
  *   mass                   grains: one micrometre of depth at concentration 1; times cell length / 10^12 is g per metre of width
  *   water of a total       micrometres of depth of one cell; times cell length / 10^9 is m3 per metre of width; of an outlet as of the ledger
+ *   Strickler coefficient  m^(1/3)/s; great is smooth: concrete has about 60 to 80, earth about 30 to 40, a bed full of weeds about 15 to 25
  *
  * A record is sound when
  *   - every value keeps the limits below,
@@ -74,6 +75,8 @@ extern "C" {
 #define JEMMYFERN_CELL_LENGTH_LEAST 100u                 /* mm */
 #define JEMMYFERN_CELL_LENGTH_MOST 100000u               /* mm */
 #define JEMMYFERN_TIME_STEP_MOST 1000u                   /* ms, at least 1 */
+#define JEMMYFERN_STRICKLER_LEAST 10u                    /* m^(1/3)/s; 0 is allowed too, and means no friction */
+#define JEMMYFERN_STRICKLER_MOST 90u                     /* m^(1/3)/s */
 #define JEMMYFERN_OUTLETS_MOST 32u                       /* entries of the list */
 #define JEMMYFERN_WANT_MOST 4000000u                     /* micrometres per step */
 #define JEMMYFERN_TOTAL_MOST UINT64_C(1000000000000000000) /* each total of the ledger and of an outlet */
@@ -90,8 +93,8 @@ static inline size_t jemmyfern_cells(const uint8_t *sheet, size_t length)
     return n <= JEMMYFERN_CELLS_MOST ? n : 0;
 }
 
-/* Grounds for refusal, in checking order, 16 after 7. Opening uses 1 to 7 and 16; every other call 4 to 7, 16, 8 and 9, then a step 10 to 13, a
- * transport or a setting of boundaries 13, a write 14 and 15. */
+/* Grounds for refusal, in checking order, 16 after 7 and 17 after 10. Opening uses 1 to 7 and 16; every other call 4 to 7, 16, 8 and 9, then a step
+ * 10, 17 and 11 to 13, a transport or a setting of boundaries 13, a write 14 and 15. */
 enum jemmyfern_refusal {
     JEMMYFERN_ACCEPTED = 0,
     JEMMYFERN_EDITION = 1,          /* the sheet is under 80 bytes or its edition is not 1 */
@@ -105,6 +108,7 @@ enum jemmyfern_refusal {
     JEMMYFERN_CARRIED = 8,          /* the carried or drawn water breaks its rules */
     JEMMYFERN_LEDGER = 9,           /* a total, of the ledger or of an outlet, exceeds 10^18 */
     JEMMYFERN_TIME_STEP = 10,       /* t is outside 1..1,000 */
+    JEMMYFERN_STRICKLER = 17,       /* the Strickler coefficient is neither 0 nor 10..90 */
     JEMMYFERN_CFL = 11,             /* t is too long for the fastest water */
     JEMMYFERN_DEPTH = 12,           /* a new depth exceeds 4,000,000 */
     JEMMYFERN_TOTAL = 13,           /* a total, of the ledger or of an outlet, would pass 10^18 by this call */
@@ -200,12 +204,18 @@ jemmyfern_opened jemmyfern_open(const uint8_t *sheet, size_t sheet_length,
                                 uint64_t *base, size_t base_length, int64_t *carried, size_t carried_length,
                                 jemmyfern_outlet *outlets, size_t outlets_length);
 
-/* One water step of t ms; outlets draw. */
+/* One water step of t ms; outlets draw.
+ *
+ * `strickler` is the friction of the bed in this step: Strickler's coefficient F, 10 to 90, or 0 for none. With it the new discharge q of a cell is
+ * divided by 1 + g * t * |u| / (F^2 * h^(4/3)) and cut towards zero, u being the velocity before the step and h the depth after it, down to whole
+ * centimetres. So friction alone never makes a discharge greater and never turns it. Under 1 cm of depth nothing keeps moving: where F is not 0, such
+ * a cell has discharge 0 after the step. Friction touches discharges alone, and the greatest step does not ask for it. */
 jemmyfern_stepped jemmyfern_step(const int64_t *bed, size_t bed_length, uint64_t *depth, size_t depth_length,
                                  int64_t *discharge, size_t discharge_length, uint64_t *mass, size_t mass_length,
                                  uint64_t *base, size_t base_length, int64_t *carried, size_t carried_length,
                                  jemmyfern_outlet *outlets, size_t outlets_length,
-                                 uint64_t cell_length, jemmyfern_boundaries boundaries, jemmyfern_ledger ledger, uint64_t t);
+                                 uint64_t cell_length, jemmyfern_boundaries boundaries, jemmyfern_ledger ledger, uint64_t t,
+                                 uint64_t strickler);
 
 /* A transport, the paper's 'settling': moves the mass with the water carried and drawn since the last one. */
 jemmyfern_answer jemmyfern_transport(const int64_t *bed, size_t bed_length, const uint64_t *depth, size_t depth_length,

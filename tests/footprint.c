@@ -35,7 +35,7 @@ static void greatest(void) { refusal = jemmyfern_greatest_step(COLUMNS, cell_len
 
 static void step(void)
 {
-    jemmyfern_stepped s = jemmyfern_step(COLUMNS, cell_length, boundaries, ledger, 100);
+    jemmyfern_stepped s = jemmyfern_step(COLUMNS, cell_length, boundaries, ledger, 100, 35);
     refusal = s.refusal, ledger = s.ledger;
 }
 

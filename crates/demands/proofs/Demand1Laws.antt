@@ -69,7 +69,7 @@ pub refused-by-the-first : RefusedByTheFirst
 unfolding opening step transport setBoundaries greatest writeRefusal
 refused-by-the-first = record {
   opening = λ κs sheet l r e k. by-outcome _ _ _ (k .0 .refusal-is);
-  step = λ κs l X h t r e k. by-outcome _ _ _ (k .0 .refusal-is);
+  step = λ κs l X h t F r e k. by-outcome _ _ _ (k .0 .refusal-is);
   transport = λ κs l X h r e k. by-outcome _ _ _ (k .0 .refusal-is);
   set-boundaries = λ κs l X h new r e k. by-outcome _ _ _ (k .0 .refusal-is);
   greatest-step = λ κs l X h r k.
@@ -118,9 +118,9 @@ five e d q m b c os pd pq pm pb pc po = rw (sym pd, sym pq, sym pm, sym pb, sym 
 three : (e : TransportLeft) (m b : List ℕ) (c : List ℤ) (os : List Outlet) → e .mass ≡ m → e .base ≡ b → e .carried ≡ c → e .outlets ≡ os → e ≡ record { mass = m; base = b; carried = c; outlets = os }
 three e m b c os pm pb pc po = rw (sym pm, sym pb, sym pc, sym po) refl
 
-not-transported : (s : Reach) (t : ℕ) → IsRefused (step s t .refusal) → transports s t ≡ false
+not-transported : (s : Reach) (t F : ℕ) → IsRefused (step s t F .refusal) → transports s t F ≡ false
 unfolding transports
-not-transported s t ne = rw (ne-eqb (step s t .refusal) 0 ne) refl
+not-transported s t F ne = rw (ne-eqb (step s t F .refusal) 0 ne) refl
 
 -- a transport or a setting of boundaries, with the list os lent
 moved-nothing : (k : Check) (s t : Reach) (os : List Outlet) {r : Answer} {e : TransportLeft} → s .held .outlets ≡ loaded os
@@ -176,19 +176,19 @@ open-stayed sheet l os {r} {e} lent (c, rest) ne =
           (same-list (e .outlets) os (outlets-of (e .outlets) held ∙ lent) rest),
     )
 
-refused-step : (s : Reach) (t : ℕ) → IsRefused (step s t .refusal) → step s t .reach ≡ s
+refused-step : (s : Reach) (t F : ℕ) → IsRefused (step s t F .refusal) → step s t F .reach ≡ s
 unfolding step
-refused-step s t ne = stayed (firstRefusal (stepGrounds s t)) s (afterStep s t) ne
+refused-step s t F ne = stayed (firstRefusal (stepGrounds s t F)) s (afterStep s t F) ne
 
-step-stayed : (s : Reach) (t : ℕ) (os : List Outlet) {r : Stepped} {e : StepLeft} → s .held .outlets ≡ loaded os
-    → StepCameTo s t (stepWith r (e .outlets)) (e .depth) (e .discharge) (e .mass) (e .base) (e .carried) × RestKept os (e .outlets) → IsRefused (r .refusal)
+step-stayed : (s : Reach) (t F : ℕ) (os : List Outlet) {r : Stepped} {e : StepLeft} → s .held .outlets ≡ loaded os
+    → StepCameTo s t F (stepWith r (e .outlets)) (e .depth) (e .discharge) (e .mass) (e .base) (e .carried) × RestKept os (e .outlets) → IsRefused (r .refusal)
     → (r ≡ record { refusal = r .refusal; boundaries = s .held .boundaries; ledger = s .held .ledger; transported = false })
     × (e ≡ record { depth = s .depth; discharge = s .discharge; mass = s .mass; base = s .base; carried = s .carried; outlets = os })
-step-stayed s t os {r} {e} lent (c, rest) ne =
-    let stopped : IsRefused (step s t .refusal) = λ z. ne (c .refusal-is ∙ z) in
-    let same : step s t .reach ≡ s = refused-step s t stopped in
+step-stayed s t F os {r} {e} lent (c, rest) ne =
+    let stopped : IsRefused (step s t F .refusal) = λ z. ne (c .refusal-is ∙ z) in
+    let same : step s t F .reach ≡ s = refused-step s t F stopped in
     let held = c .held-is ∙ ap (λ (x : Reach). x .held) same in (
-      step-stays r _ _ (boundaries-of (e .outlets) held) (ledger-of (e .outlets) held) (c .transported-is ∙ not-transported s t stopped),
+      step-stays r _ _ (boundaries-of (e .outlets) held) (ledger-of (e .outlets) held) (c .transported-is ∙ not-transported s t F stopped),
       five e _ _ _ _ _ _ (c .depth-is ∙ ap (λ (x : Reach). x .depth) same) (c .discharge-is ∙ ap (λ (x : Reach). x .discharge) same)
           (c .mass-is ∙ ap (λ (x : Reach). x .mass) same) (c .base-is ∙ ap (λ (x : Reach). x .base) same) (c .carried-is ∙ ap (λ (x : Reach). x .carried) same)
           (same-list (e .outlets) os (outlets-of (e .outlets) held ∙ lent) rest),
@@ -199,7 +199,7 @@ unfolding transport setBoundaries greatest writeRefusal outputAfter
 stays-as-it-came = record {
   opening = λ κs sheet l r e k ne.
       open-stayed (now sheet) (lent (now (l .bed)) (now (l .depth)) (now (l .discharge)) (now (l .mass)) (now (l .base)) (now (l .carried)) (loaded (now (l .outlets)))) (now (l .outlets)) refl k ne;
-  step = λ κs l X h t r e k ne. step-stayed (given l X h) t (now (l .outlets)) refl k ne;
+  step = λ κs l X h t F r e k ne. step-stayed (given l X h) t F (now (l .outlets)) refl k ne;
   transport = λ κs l X h r e k ne.
       moved-nothing (firstRefusal (transportGrounds (given l X h) (h .boundaries))) (given l X h) (afterTransport (given l X h)) (now (l .outlets)) refl k ne;
   set-boundaries = λ κs l X h new r e k ne.

@@ -71,9 +71,9 @@ opened-is sheet l =
     moved (openGrounds sheet (length (l .bed)) (length (l .depth)) (length (l .discharge)) (length (l .mass)) (length (l .base)) (length (l .carried)) (l .held .outlets)) l
     (sheetRecord sheet (l .held .outlets)) refl
 
-pub stepped-is : (s : Reach) (t : ℕ) → step s t .refusal ≡ 0 → step s t .reach ≡ afterStep s t
+pub stepped-is : (s : Reach) (t F : ℕ) → step s t F .refusal ≡ 0 → step s t F .reach ≡ afterStep s t F
 unfolding step numbered
-stepped-is s t = moved (stepGrounds s t) s (afterStep s t) refl
+stepped-is s t F = moved (stepGrounds s t F) s (afterStep s t F) refl
 
 transported-is : (s : Reach) → transport s .refusal ≡ 0 → transport s .reach ≡ afterTransport s
 unfolding transport numbered
@@ -106,13 +106,13 @@ keeps-not s t i l ne = go (allBelow (cells s) (test s t)) refl
     go true e = absurd (ne (omega (arith, leb-true (outflow (summed s t i) (summed s t (suc i)) (summedDrawn s t i)) (baseAt s i) (all-at (test s t) (cells s) i e l), covered-is s t i)))
     go false e = refl
 
-says-kept : (s : Reach) (t : ℕ) → step s t .refusal ≡ 0 → keepsSums s t ≡ true → transports s t ≡ false
+says-kept : (s : Reach) (t F : ℕ) → step s t F .refusal ≡ 0 → keepsSums s t ≡ true → transports s t F ≡ false
 unfolding transports
-says-kept s t z e = rw (z, e) refl
+says-kept s t F z e = rw (z, e) refl
 
-says-transported : (s : Reach) (t : ℕ) → step s t .refusal ≡ 0 → keepsSums s t ≡ false → transports s t ≡ true
+says-transported : (s : Reach) (t F : ℕ) → step s t F .refusal ≡ 0 → keepsSums s t ≡ false → transports s t F ≡ true
 unfolding transports
-says-transported s t z e = rw (z, e) refl
+says-transported s t F z e = rw (z, e) refl
 
 -- what a step leaves of the record that N is added to
 first-kept : (s : Reach) (t : ℕ) → keepsSums s t ≡ true → transportedFirst s t ≡ s
@@ -123,13 +123,13 @@ first-transported : (s : Reach) (t : ℕ) → keepsSums s t ≡ false → transp
 unfolding transportedFirst
 first-transported s t e = rw e refl
 
-stepped-mass : (s : Reach) (t : ℕ) → (afterStep s t .mass ≡ transportedFirst s t .mass) × (afterStep s t .base ≡ transportedFirst s t .base)
+stepped-mass : (s : Reach) (t F : ℕ) → (afterStep s t F .mass ≡ transportedFirst s t .mass) × (afterStep s t F .base ≡ transportedFirst s t .base)
 unfolding afterStep
-stepped-mass s t = (refl, refl)
+stepped-mass s t F = (refl, refl)
 
-stepped-carried : (s : Reach) (t i : ℕ) → i ≤ cells s → getD (afterStep s t .carried) i (pos 0) ≡ carriedAt (transportedFirst s t) i +ℤ netAt s t i
+stepped-carried : (s : Reach) (t F i : ℕ) → i ≤ cells s → getD (afterStep s t F .carried) i (pos 0) ≡ carriedAt (transportedFirst s t) i +ℤ netAt s t i
 unfolding afterStep
-stepped-carried s t i l = getD-tabulate (suc (cells s)) (λ j. carriedAt (transportedFirst s t) j +ℤ netAt s t j) i (pos 0) (omega (arith, l))
+stepped-carried s t F i l = getD-tabulate (suc (cells s)) (λ j. carriedAt (transportedFirst s t) j +ℤ netAt s t j) i (pos 0) (omega (arith, l))
 
 transported-base : (s : Reach) → afterTransport s .base ≡ s .depth
 unfolding afterTransport
@@ -145,19 +145,19 @@ unfolding afterTransport
 none-carried s i = getD-zeros (length (s .carried)) i
 
 -- an accepted step was lent at most 32 outlets
-step-stood : (s : Reach) (t : ℕ) → step s t .refusal ≡ 0 → firstRefusal (stepGrounds s t) ≡ Pass
+step-stood : (s : Reach) (t F : ℕ) → step s t F .refusal ≡ 0 → firstRefusal (stepGrounds s t F) ≡ Pass
 unfolding step numbered
-step-stood s t z = stood-all (stepGrounds s t) refl (sym (number (firstRefusal (stepGrounds s t)) s (afterStep s t)) ∙ z)
+step-stood s t F z = stood-all (stepGrounds s t F) refl (sym (number (firstRefusal (stepGrounds s t F)) s (afterStep s t F)) ∙ z)
 
-step-few : (s : Reach) (t : ℕ) → step s t .refusal ≡ 0 → s .held .outlets .count ≤ outletsMost
-step-few s t z = outlets-few (cells s) (s .held .outlets) (stood (stepGrounds s t) (step-stood s t z) 5)
+step-few : (s : Reach) (t F : ℕ) → step s t F .refusal ≡ 0 → s .held .outlets .count ≤ outletsMost
+step-few s t F z = outlets-few (cells s) (s .held .outlets) (stood (stepGrounds s t F) (step-stood s t F z) 5)
 
 -- what each outlet has drawn after it, of the list that it left
-stepped-drawn : (s : Reach) (t : ℕ) → step s t .refusal ≡ 0 → (os : List Outlet) → loaded os ≡ afterStep s t .held .outlets → transportedFirst s t .held .outlets .count ≡ s .held .outlets .count
+stepped-drawn : (s : Reach) (t F : ℕ) → step s t F .refusal ≡ 0 → (os : List Outlet) → loaded os ≡ afterStep s t F .held .outlets → transportedFirst s t .held .outlets .count ≡ s .held .outlets .count
     → (k : ℕ) → k < s .held .outlets .count → getD os k noOutlet .drawn ≡ outletAt (transportedFirst s t .held .outlets) k .drawn + drawOf s t k
 unfolding afterStep stepHeld stepOutlets steppedOutlet
-stepped-drawn s t z os e n k l =
-    let few = step-few s t z in
+stepped-drawn s t F z os e n k l =
+    let few = step-few s t F z in
     ap (λ (o : Outlet). o .drawn)
     (sym (outlet-loaded os k (omega (arith, l, few)))
     ∙ ap (λ (x : Outlets). outletAt x k) e
@@ -171,46 +171,46 @@ transported-drawn : (s : Reach) (k : ℕ) → s .held .outlets .count ≤ outlet
 unfolding afterTransport transportHeld transportOutlets movedOutlets movedOutlet
 transported-drawn s k few l = ap (λ (o : Outlet). o .drawn) (each-at (movedOutlet (massColumnsOf s) (s .held .outlets)) (s .held .outlets) few k l)
 
-kept-is : (s : Reach) (t : ℕ) {r : Stepped} {e : StepLeft} → StepCameTo s t (stepWith r (e .outlets)) (e .depth) (e .discharge) (e .mass) (e .base) (e .carried) → r .refusal ≡ 0
+kept-is : (s : Reach) (t F : ℕ) {r : Stepped} {e : StepLeft} → StepCameTo s t F (stepWith r (e .outlets)) (e .depth) (e .discharge) (e .mass) (e .base) (e .carried) → r .refusal ≡ 0
     → ((i : ℕ) → i < cells s → Covered s t i) → Kept s t r e
-kept-is s t {r} {e} k z f =
+kept-is s t F {r} {e} k z f =
     let a = sym (k .refusal-is) ∙ z in
-    let same = stepped-is s t a in
+    let same = stepped-is s t F a in
     let w = keeps s t f in
     let first = first-kept s t w in
     record {
-      said = k .transported-is ∙ says-kept s t a w;
-      mass = k .mass-is ∙ ap (λ (x : Reach). x .mass) same ∙ stepped-mass s t .0 ∙ ap (λ (x : Reach). x .mass) first;
-      base = k .base-is ∙ ap (λ (x : Reach). x .base) same ∙ stepped-mass s t .1 ∙ ap (λ (x : Reach). x .base) first;
+      said = k .transported-is ∙ says-kept s t F a w;
+      mass = k .mass-is ∙ ap (λ (x : Reach). x .mass) same ∙ stepped-mass s t F .0 ∙ ap (λ (x : Reach). x .mass) first;
+      base = k .base-is ∙ ap (λ (x : Reach). x .base) same ∙ stepped-mass s t F .1 ∙ ap (λ (x : Reach). x .base) first;
       carried = λ i l.
           ap (λ (c : List ℤ). getD c i (pos 0)) (k .carried-is ∙ ap (λ (x : Reach). x .carried) same)
-          ∙ stepped-carried s t i l
+          ∙ stepped-carried s t F i l
           ∙ ap (λ (x : Reach). carriedAt x i +ℤ netAt s t i) first;
       drawn = λ j m.
-          stepped-drawn s t a (e .outlets) (outlets-of (e .outlets) (k .held-is) ∙ ap (λ (x : Reach). x .held .outlets) same) (ap (λ (x : Reach). x .held .outlets .count) first) j m
+          stepped-drawn s t F a (e .outlets) (outlets-of (e .outlets) (k .held-is) ∙ ap (λ (x : Reach). x .held .outlets) same) (ap (λ (x : Reach). x .held .outlets .count) first) j m
           ∙ ap (λ (x : Reach). outletAt (x .held .outlets) j .drawn + drawOf s t j) first;
     }
 
-not-kept-is : (s : Reach) (t : ℕ) {r : Stepped} {e : StepLeft} → StepCameTo s t (stepWith r (e .outlets)) (e .depth) (e .discharge) (e .mass) (e .base) (e .carried) → r .refusal ≡ 0
+not-kept-is : (s : Reach) (t F : ℕ) {r : Stepped} {e : StepLeft} → StepCameTo s t F (stepWith r (e .outlets)) (e .depth) (e .discharge) (e .mass) (e .base) (e .carried) → r .refusal ≡ 0
     → (i : ℕ) → i < cells s → (Covered s t i → ⊥) → NotKept s t r e
-not-kept-is s t {r} {e} k z i l ne =
+not-kept-is s t F {r} {e} k z i l ne =
     let a = sym (k .refusal-is) ∙ z in
-    let same = stepped-is s t a in
+    let same = stepped-is s t F a in
     let w = keeps-not s t i l ne in
     let first = first-transported s t w in
     record {
-      said = k .transported-is ∙ says-transported s t a w;
-      mass = k .mass-is ∙ ap (λ (x : Reach). x .mass) same ∙ stepped-mass s t .0 ∙ ap (λ (x : Reach). x .mass) first;
-      base = k .base-is ∙ ap (λ (x : Reach). x .base) same ∙ stepped-mass s t .1 ∙ ap (λ (x : Reach). x .base) first ∙ transported-base s;
+      said = k .transported-is ∙ says-transported s t F a w;
+      mass = k .mass-is ∙ ap (λ (x : Reach). x .mass) same ∙ stepped-mass s t F .0 ∙ ap (λ (x : Reach). x .mass) first;
+      base = k .base-is ∙ ap (λ (x : Reach). x .base) same ∙ stepped-mass s t F .1 ∙ ap (λ (x : Reach). x .base) first ∙ transported-base s;
       carried = λ j m.
           ap (λ (c : List ℤ). getD c j (pos 0)) (k .carried-is ∙ ap (λ (x : Reach). x .carried) same)
-          ∙ stepped-carried s t j m
+          ∙ stepped-carried s t F j m
           ∙ ap (λ (x : Reach). carriedAt x j +ℤ netAt s t j) first
           ∙ ap (λ (c : ℤ). c +ℤ netAt s t j) (none-carried s j)
           ∙ +ℤ-idl (netAt s t j);
       drawn = λ j m.
-          let none = ap (λ (x : Reach). outletAt (x .held .outlets) j .drawn) first ∙ transported-drawn s j (step-few s t a) m in
-          stepped-drawn s t a (e .outlets) (outlets-of (e .outlets) (k .held-is) ∙ ap (λ (x : Reach). x .held .outlets) same) (ap (λ (x : Reach). x .held .outlets .count) first ∙ transported-count s) j m
+          let none = ap (λ (x : Reach). outletAt (x .held .outlets) j .drawn) first ∙ transported-drawn s j (step-few s t F a) m in
+          stepped-drawn s t F a (e .outlets) (outlets-of (e .outlets) (k .held-is) ∙ ap (λ (x : Reach). x .held .outlets) same) (ap (λ (x : Reach). x .held .outlets .count) first ∙ transported-count s) j m
           ∙ ap (λ (d : ℕ). d + drawOf s t j) none ∙ omega arith;
     }
 
@@ -247,9 +247,9 @@ greatest-of os {r} {h} {t} {p} e =
 pub digit-for-digit : DigitForDigit
 digit-for-digit = record {
   opening = λ κs sheet l r e k z. left-by-opening (k .0) ∙ opened-is (now sheet) (lentBy l) (sym (k .0 .refusal-is) ∙ z);
-  step = λ κs l X h t r e k z. left-by-step (given l X h) t (k .0) ∙ stepped-is (given l X h) t (sym (k .0 .refusal-is) ∙ z);
-  kept = λ κs l X h t r e k z f. kept-is (given l X h) t (k .0) z f;
-  not-kept = λ κs l X h t r e k z i l' ne. not-kept-is (given l X h) t (k .0) z i l' ne;
+  step = λ κs l X h t F r e k z. left-by-step (given l X h) t F (k .0) ∙ stepped-is (given l X h) t F (sym (k .0 .refusal-is) ∙ z);
+  kept = λ κs l X h t F r e k z f. kept-is (given l X h) t F (k .0) z f;
+  not-kept = λ κs l X h t F r e k z i l' ne. not-kept-is (given l X h) t F (k .0) z i l' ne;
   transport = λ κs l X h r e k z. left-by-transport (given l X h) (k .0) ∙ transported-is (given l X h) (sym (k .0 .refusal-is) ∙ z);
   set-boundaries = λ κs l X h new r e k z. left-by-setting (given l X h) new (k .0) ∙ set-is (given l X h) new (sym (k .0 .refusal-is) ∙ z);
   greatest-step = λ κs l X h r k z. greatest-of (now (l .outlets)) (k ∙ greatest-is (given l X h) (sym (ap (λ (a : GreatestAnswer). a .refusal) k) ∙ z));

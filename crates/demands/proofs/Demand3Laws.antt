@@ -66,18 +66,18 @@ append e (then l c) k = then l (append e c k)
 
 -- what holds of the tally's own record at its last step, with the wants of the call, holds of the program's
 of-every-step : (P : Reach → ℕ → Reach → Type 0)
-    → ((T : Tally) (es : List Entry) (f : Free) (t : ℕ) (s' : Reach) → Holds (run T (es ++ (record { free = f; call = stepCall t } ∷ []))) s' →
+    → ((T : Tally) (es : List Entry) (f : Free) (t F : ℕ) (s' : Reach) → Holds (run T (es ++ (record { free = f; call = stepCall t F } ∷ []))) s' →
     let w = withWants (f .wants) (run T es .own) in
-    step w t .refusal ≡ 0 → s' ≡ step w t .reach → P w t s')
+    step w t F .refusal ≡ 0 → s' ≡ step w t F .reach → P w t s')
     → OfEveryStep P
-of-every-step P p sheet outlets es before opened s s' f t first z rest k accepted =
-    let e : Entry = record { free = f; call = stepCall t } in
+of-every-step P p sheet outlets es before opened s s' f t F first z rest k accepted =
+    let e : Entry = record { free = f; call = stepCall t F } in
     let T = start sheet (loaded outlets) in
     let own : s ≡ run T es .own = demand-3 sheet outlets es before opened s first z rest .own in
-    let zero : step (withWants (f .wants) s) t .refusal ≡ 0 = sym (answer-is s f (stepCall t) s' k) ∙ accepted in
+    let zero : step (withWants (f .wants) s) t F .refusal ≡ 0 = sym (answer-is s f (stepCall t F) s' k) ∙ accepted in
     let later = demand-3 sheet outlets (es ++ (e ∷ [])) before opened s' first z (append e rest k) in
-    subst (λ (x : Reach). step (withWants (f .wants) x) t .refusal ≡ 0 → s' ≡ step (withWants (f .wants) x) t .reach → P (withWants (f .wants) x) t s') (sym own)
-    (λ a b. p T es f t s' later a b) zero (link s f (stepCall t) s' k)
+    subst (λ (x : Reach). step (withWants (f .wants) x) t F .refusal ≡ 0 → s' ≡ step (withWants (f .wants) x) t F .reach → P (withWants (f .wants) x) t s') (sym own)
+    (λ a b. p T es f t F s' later a b) zero (link s f (stepCall t F) s' k)
 
 whole : (z : ℤ) → leZ (pos 0) z ≡ true → pos (positive z) ≡ z
 whole (pos n) e = refl
@@ -87,25 +87,25 @@ new-depth : (s : Reach) (t i : ℕ) → newDepth s t i ≡ pos (depthAt s i) +�
 unfolding newDepth undrawnDepth
 new-depth s t i = let e : suc i ≡ i + 1 = omega arith in rw e refl
 
-depth-after : (s : Reach) (t i : ℕ) → i < cells s → getD (afterStep s t .depth) i 0 ≡ positive (newDepth s t i)
+depth-after : (s : Reach) (t F i : ℕ) → i < cells s → getD (afterStep s t F .depth) i 0 ≡ positive (newDepth s t i)
 unfolding afterStep
-depth-after s t i l = getD-tabulate (cells s) (λ j. positive (newDepth s t j)) i 0 l
+depth-after s t F i l = getD-tabulate (cells s) (λ j. positive (newDepth s t j)) i 0 l
 
 pub no-depth-below-zero : NoDepthBelowZero
 no-depth-below-zero =
     of-every-step DepthsLeft
-    (λ T es f t s' later a b i l.
+    (λ T es f t F s' later a b i l.
     let w = withWants (f .wants) (run T es .own) in
-    ap (λ (x : Reach). pos (getD (x .depth) i 0)) (b ∙ stepped-is w t a)
-    ∙ ap pos (depth-after w t i l)
-    ∙ whole (newDepth w t i) (latest-depths T es f t later a i l)
+    ap (λ (x : Reach). pos (getD (x .depth) i 0)) (b ∙ stepped-is w t F a)
+    ∙ ap pos (depth-after w t F i l)
+    ∙ whole (newDepth w t i) (latest-depths T es f t F later a i l)
     ∙ new-depth w t i)
 
 pub no-want-exceeded : NoWantExceeded
-no-want-exceeded = of-every-step DrawsWithinWants (λ T es f t s' later a b k l. latest-wanted T es f t later a k l)
+no-want-exceeded = of-every-step DrawsWithinWants (λ T es f t F s' later a b k l. latest-wanted T es f t F later a k l)
 
 pub available-from-zero : AvailableFromZero
-available-from-zero = of-every-step GivesFromZero (λ T es f t s' later a b i l. leZ-yes (subst Dec.T (sym (latest-available T es f t later a i l)) tt))
+available-from-zero = of-every-step GivesFromZero (λ T es f t F s' later a b i l. leZ-yes (subst Dec.T (sym (latest-available T es f t F later a i l)) tt))
 
 -- ---- they are of every list: with its chain they say of the definitions what `Holds` does
 
@@ -116,18 +116,18 @@ after-definitions sheet l outlets es lends z =
     let first = made-first sheet l outlets lends z in
     after-every-list sheet outlets es l o (final o es) first (first-accepted sheet l o outlets lends z first) (every-list o es (opened-of-list sheet l outlets lends))
 
-pub steps-of-definitions : (P : Reach → ℕ → Reach → Type 0) → OfEveryStep P → (sheet : List ℕ) (l : Reach) (outlets : List Outlet) (es : List Entry) (f : Free) (t : ℕ) → l .held .outlets ≡ loaded outlets
+pub steps-of-definitions : (P : Reach → ℕ → Reach → Type 0) → OfEveryStep P → (sheet : List ℕ) (l : Reach) (outlets : List Outlet) (es : List Entry) (f : Free) (t F : ℕ) → l .held .outlets ≡ loaded outlets
     → opening sheet l .refusal ≡ 0 →
     let w = withWants (f .wants) (final (opening sheet l .reach) es) in
-    step w t .refusal ≡ 0 → P w t (step w t .reach)
-steps-of-definitions P p sheet l outlets es f t lends z a =
+    step w t F .refusal ≡ 0 → P w t (step w t F .reach)
+steps-of-definitions P p sheet l outlets es f t F lends z a =
     let o = opening sheet l .reach in
     let s = final o es in
     let first = made-first sheet l outlets lends z in
     let kept = opened-of-list sheet l outlets lends in
-    let k = made s f (stepCall t) (final-of-list o es kept) in
-    p sheet outlets es l o s (step (withWants (f .wants) s) t .reach) f t first (first-accepted sheet l o outlets lends z first) (every-list o es kept) k
-    (answer-is s f (stepCall t) (step (withWants (f .wants) s) t .reach) k ∙ a)
+    let k = made s f (stepCall t F) (final-of-list o es kept) in
+    p sheet outlets es l o s (step (withWants (f .wants) s) t F .reach) f t F first (first-accepted sheet l o outlets lends z first) (every-list o es kept) k
+    (answer-is s f (stepCall t F) (step (withWants (f .wants) s) t F .reach) k ∙ a)
 
 -- ---- the tally, call by call
 
@@ -150,7 +150,7 @@ same-if f n U T e = go (eqb n 0)
 
 initial-same : (T : Tally) (f : Free) (c : Call) → ((sheet : List ℕ) (os : List Outlet) → c ≡ openCall sheet os → ⊥) → count T f c .initial ≡ T .initial
 unfolding count takeWants countStep countTransport countSetting
-initial-same T f (stepCall t) ne = same-if (λ (U : Tally). U .initial) (refusalOf (T .own) f (stepCall t)) (countStep (takeWants (f .wants) T) t) (takeWants (f .wants) T) refl
+initial-same T f (stepCall t F) ne = same-if (λ (U : Tally). U .initial) (refusalOf (T .own) f (stepCall t F)) (countStep (takeWants (f .wants) T) t F) (takeWants (f .wants) T) refl
 initial-same T f transportCall ne = same-if (λ (U : Tally). U .initial) (refusalOf (T .own) f transportCall) (countTransport (takeWants (f .wants) T)) (takeWants (f .wants) T) refl
 initial-same T f (boundariesCall new) ne = same-if (λ (U : Tally). U .initial) (refusalOf (T .own) f (boundariesCall new)) (countSetting (takeWants (f .wants) T) new) (takeWants (f .wants) T) refl
 initial-same T f greatestCall ne = same-if (λ (U : Tally). U .initial) (refusalOf (T .own) f greatestCall) (takeWants (f .wants) T) (takeWants (f .wants) T) refl
@@ -159,7 +159,7 @@ initial-same T f (openCall sheet os) ne = absurd (ne sheet os refl)
 
 pairs-same : (T : Tally) (f : Free) (c : Call) → ((sheet : List ℕ) (os : List Outlet) → c ≡ openCall sheet os → ⊥) → ((new : List Boundary) → c ≡ boundariesCall new → ⊥) → count T f c .held ≡ T .held
 unfolding count takeWants countStep countTransport
-pairs-same T f (stepCall t) ne nb = same-if (λ (U : Tally). U .held) (refusalOf (T .own) f (stepCall t)) (countStep (takeWants (f .wants) T) t) (takeWants (f .wants) T) refl
+pairs-same T f (stepCall t F) ne nb = same-if (λ (U : Tally). U .held) (refusalOf (T .own) f (stepCall t F)) (countStep (takeWants (f .wants) T) t F) (takeWants (f .wants) T) refl
 pairs-same T f transportCall ne nb = same-if (λ (U : Tally). U .held) (refusalOf (T .own) f transportCall) (countTransport (takeWants (f .wants) T)) (takeWants (f .wants) T) refl
 pairs-same T f (boundariesCall new) ne nb = absurd (nb new refl)
 pairs-same T f greatestCall ne nb = same-if (λ (U : Tally). U .held) (refusalOf (T .own) f greatestCall) (takeWants (f .wants) T) (takeWants (f .wants) T) refl
@@ -231,7 +231,7 @@ own-opened sheet os = ap (withSums (sheetRecord sheet os) noSums) (no-draws-clea
 
 refused-is : (T : Tally) (f : Free) (c : Call) → ((sheet : List ℕ) (os : List Outlet) → c ≡ openCall sheet os → ⊥) → (refusalOf (T .own) f c ≡ 0 → ⊥) → count T f c ≡ takeWants (f .wants) T
 unfolding count
-refused-is T f (stepCall t) ne n = kept-if _ _ _ n
+refused-is T f (stepCall t F) ne n = kept-if _ _ _ n
 refused-is T f transportCall ne n = kept-if _ _ _ n
 refused-is T f (boundariesCall new) ne n = kept-if _ _ _ n
 refused-is T f greatestCall ne n = kept-if _ _ _ n
@@ -257,20 +257,20 @@ tally-course = record {
   same-initial = initial-same;
   set-pairs = λ T f new e. ap (λ (U : Tally). U .held) (moved-if _ (countSetting (takeWants (f .wants) T) new) (takeWants (f .wants) T) e);
   other-pairs = pairs-same;
-  step-water = λ T f t e.
+  step-water = λ T f t F e.
       let w = withWants (f .wants) (T .own) in
-      by-sums (WaterAdded w t (T .sums)) _ (countStep (takeWants (f .wants) T) t) (takeWants (f .wants) T) e (step-adds w t (T .sums));
-  step-kept = λ T f t e c.
+      by-sums (WaterAdded w t (T .sums)) _ (countStep (takeWants (f .wants) T) t F) (takeWants (f .wants) T) e (step-adds w t (T .sums));
+  step-kept = λ T f t F e c.
       let w = withWants (f .wants) (T .own) in
       let k = keeps w t c in (
-        by-sums (MassSame (T .sums)) _ (countStep (takeWants (f .wants) T) t) (takeWants (f .wants) T) e (step-same w t (T .sums) k),
-        by-outlets _ (countStep (takeWants (f .wants) T) t) (takeWants (f .wants) T) e ∙ step-outlets-kept w t (wanting (f .wants) (T .outlets)) k,
+        by-sums (MassSame (T .sums)) _ (countStep (takeWants (f .wants) T) t F) (takeWants (f .wants) T) e (step-same w t (T .sums) k),
+        by-outlets _ (countStep (takeWants (f .wants) T) t F) (takeWants (f .wants) T) e ∙ step-outlets-kept w t (wanting (f .wants) (T .outlets)) k,
       );
-  step-not-kept = λ T f t e i l ne.
+  step-not-kept = λ T f t F e i l ne.
       let w = withWants (f .wants) (T .own) in
       let k = keeps-not w t i l ne in (
-        by-sums (MassAdded w (T .sums)) _ (countStep (takeWants (f .wants) T) t) (takeWants (f .wants) T) e (step-moves w t (T .sums) k),
-        by-outlets _ (countStep (takeWants (f .wants) T) t) (takeWants (f .wants) T) e ∙ step-outlets-moved w t (wanting (f .wants) (T .outlets)) k,
+        by-sums (MassAdded w (T .sums)) _ (countStep (takeWants (f .wants) T) t F) (takeWants (f .wants) T) e (step-moves w t (T .sums) k),
+        by-outlets _ (countStep (takeWants (f .wants) T) t F) (takeWants (f .wants) T) e ∙ step-outlets-moved w t (wanting (f .wants) (T .outlets)) k,
       );
   transport-water = λ T f. water-same-if _ (countTransport (takeWants (f .wants) T)) (takeWants (f .wants) T) (mass-adds-no-water (withWants (f .wants) (T .own)) (T .sums));
   transport-mass = λ T f e. (

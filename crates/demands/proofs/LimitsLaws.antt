@@ -16,6 +16,7 @@ use Rattle.sheet.specs.Opening.{lentFit, sheetRecord}
 use Rattle.timestep.specs.GreatestStep.{placeSpeed}
 use Rattle.water.specs.Water.{newDepth, undrawnDepth}
 use Rattle.transport.specs.Calls.{afterTransport}
+use Rattle.friction.specs.Friction.{stricklerFits}
 use Rattle.update.specs.Step.{timeFits, depthsFit, afterStep}
 use Rattle.writing.specs.Writing.{noneCarried, noneDrawn, roomFits}
 use Rattle.demands.specs.Limits.{Limits, Lists}
@@ -42,7 +43,7 @@ two-more : (n : ℕ) → suc (n + 1) ≡ n + 2
 two-more n = omega arith
 
 pub limits : Limits
-unfolding newDepth undrawnDepth fromCell sheetSize editionFits sizeFits inside apart spansOf lentFit lengthsFit cellLengthFits wallFits openFits fedFits kindFits boundaryFits boundariesFit cellFits cellsFit carriedFits carriedCellsFit shutFits carriedFit totalsFit ledgerFits outletFits outletsFit outletTotalsFit allTotalsFit timeFits meetsCfl depthsFit noneCarried noneDrawn roomFits apartFrom columnsClear
+unfolding newDepth undrawnDepth fromCell sheetSize editionFits sizeFits inside apart spansOf lentFit lengthsFit cellLengthFits wallFits openFits fedFits kindFits boundaryFits boundariesFit cellFits cellsFit carriedFits carriedCellsFit shutFits carriedFit totalsFit ledgerFits outletFits outletsFit outletTotalsFit allTotalsFit timeFits stricklerFits meetsCfl depthsFit noneCarried noneDrawn roomFits apartFrom columnsClear
 limits = record {
   edition = λ s. refl;
   size = λ s. refl;
@@ -73,6 +74,7 @@ limits = record {
   outlet-totals = λ o. refl;
   all-totals = λ h. refl;
   time = λ t. refl;
+  strickler = λ F. refl;
   cfl = λ s t. ap (λ (k : ℕ). allBelow k (λ i. leb (t * placeSpeed s i) (1_000 * s .cellLength))) (two-more (cells s));
   new-depths = λ s t. refl;
   none-carried = λ c. refl;
@@ -84,7 +86,7 @@ pub lists : Lists
 unfolding afterStep afterTransport sheetRecord
 lists = record {
   record-list = λ s es. refl;
-  step-list = λ s t. refl;
+  step-list = λ s t F. refl;
   transport-list = λ s es. refl;
   write-list = λ s room. refl;
   open-list = λ s z h q m b c os. refl;

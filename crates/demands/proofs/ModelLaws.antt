@@ -166,7 +166,7 @@ with-no-outlet = record {
   none-drawn = λ os e. rw e refl;
   depth = λ s t i e. less-nothing _ (sum (draws s t i)) (nothing-drawn s t i e .0);
   keeps = λ s t e. all-same _ _ (cells s) (λ i l. rw (nothing-drawn s t i e .1) (ap (λ (n : ℕ). leb n (baseAt s i)) (outflow-is _ _ [] ∙ add-zero _)));
-  step-none = λ s t e. first-count s t ∙ e;
+  step-none = λ s t F e. first-count s t ∙ e;
   transport-none = λ s e. transported-count s ∙ e;
 }
 
@@ -303,15 +303,15 @@ unrounded-cfl s t speeds meets = record {
     at i h v l e = unrounded t (s .cellLength) h (v + 0) (rw (add-zero, sym e) (meets i l))
 
 -- an accepted step meets CFL
-step-meets : (s : Reach) (t : ℕ) → step s t .refusal ≡ 0 → PlaceSpeeds s × ((i : ℕ) → i ≤ cells s + 1 → MeetsAt s t i)
-step-meets s t =
-    by-step s t (λ o. o .refusal ≡ 0 → PlaceSpeeds s × ((i : ℕ) → i ≤ cells s + 1 → MeetsAt s t i))
+step-meets : (s : Reach) (t F : ℕ) → step s t F .refusal ≡ 0 → PlaceSpeeds s × ((i : ℕ) → i ≤ cells s + 1 → MeetsAt s t i)
+step-meets s t F =
+    by-step s t F (λ o. o .refusal ≡ 0 → PlaceSpeeds s × ((i : ℕ) → i ≤ cells s + 1 → MeetsAt s t i))
     (λ n p y. absurd (omega (arith, p, y)))
     (λ b c d f y. (place-speeds s b, meets-each s t c))
 
 pub not-too-long : NotTooLong
 not-too-long = record {
-  step = λ κs l X h t r e k z. let g = step-meets (given l X h) t (sym (k .0 .refusal-is) ∙ z) in unrounded-cfl (given l X h) _ (g .0) (λ i m. omega (arith, g .1 i m));
+  step = λ κs l X h t F r e k z. let g = step-meets (given l X h) t F (sym (k .0 .refusal-is) ∙ z) in unrounded-cfl (given l X h) _ (g .0) (λ i m. omega (arith, g .1 i m));
   greatest = λ κs l X h r k z. let g = greatest-step κs l X h r k z in unrounded-cfl (given l X h) _ (g .0) (λ i m. omega (arith, g .1 .meets i m));
   nearly = λ t X h v u. rounded-once t X h v (omega (arith, u .left-over)) (omega (arith, u .wave));
   nearly-greatest = λ κs l X h r k z t m u. let g = greatest-step κs l X h r k z in g .1 .greatest t m (spared (given l X h) t (g .0) u);
@@ -326,7 +326,7 @@ passed {s} {s'} e f es g =
 pub stand-again : StandsAgain
 stand-again = record {
   opening = λ κs sheet l r e k z. passed (left-by-opening (k .0)) (λ es g. opened-stands (now sheet) (lentBy l) es (sym (k .0 .refusal-is) ∙ z) g);
-  step = λ κs l X h t r e k z. passed (left-by-step (given l X h) t (k .0)) (λ es g. step-stands-again (given l X h) t es (sym (k .0 .refusal-is) ∙ z) g);
+  step = λ κs l X h t F r e k z. passed (left-by-step (given l X h) t F (k .0)) (λ es g. step-stands-again (given l X h) t F es (sym (k .0 .refusal-is) ∙ z) g);
   transport = λ κs l X h r e k z.
       let s = given l X h in
       let same = transport-is s in

@@ -27,7 +27,7 @@ use Rattle.jemmyfern_c.proofs.Functions.{Lent, given, OpenLeft, StepLeft, Trans
 -- 'Every sheet, end setting, time step, settling, greatest-step call and write ..': no function asks anything of what it is given
 pub record AsksNothing : Type 0 where
   pub opening : (κs : Lfts 8) (sheet : RefT (List ℕ)) (l : Lent) → OpenAsks κs sheet l
-  pub step : (κs : Lfts 7) (l : Lent) (X : ℕ) (k : Held) (t : ℕ) → StepAsks κs l X k t
+  pub step : (κs : Lfts 7) (l : Lent) (X : ℕ) (k : Held) (t F : ℕ) → StepAsks κs l X k t F
   pub transport : (κs : Lfts 7) (l : Lent) (X : ℕ) (k : Held) → TransportAsks κs l X k
   pub set-boundaries : (κs : Lfts 7) (l : Lent) (X : ℕ) (k : Held) (new : List Boundary) → SettingAsks κs l X k new
   pub greatest-step : (κs : Lfts 7) (l : Lent) (X : ℕ) (k : Held) → GreatestAsks κs l X k
@@ -42,8 +42,8 @@ First n (g ∷ gs) = (g .stands ≡ true → First n gs) × (g .stands ≡ false
 pub record RefusedByTheFirst : Type 0 where
   pub opening : (κs : Lfts 8) (sheet : RefT (List ℕ)) (l : Lent) (r : Opened) (e : OpenLeft) → OpenEnsures κs sheet l r e
       → First (r .refusal) (openGrounds (now sheet) (length (now (l .bed))) (length (now (l .depth))) (length (now (l .discharge))) (length (now (l .mass))) (length (now (l .base))) (length (now (l .carried))) (loaded (now (l .outlets))))
-  pub step : (κs : Lfts 7) (l : Lent) (X : ℕ) (k : Held) (t : ℕ) (r : Stepped) (e : StepLeft) → StepEnsures κs l X k t r e
-      → First (r .refusal) (stepGrounds (given l X k) t)
+  pub step : (κs : Lfts 7) (l : Lent) (X : ℕ) (k : Held) (t F : ℕ) (r : Stepped) (e : StepLeft) → StepEnsures κs l X k t F r e
+      → First (r .refusal) (stepGrounds (given l X k) t F)
   pub transport : (κs : Lfts 7) (l : Lent) (X : ℕ) (k : Held) (r : Answer) (e : TransportLeft) → TransportEnsures κs l X k r e
       → First (r .refusal) (transportGrounds (given l X k) (k .boundaries))
   pub set-boundaries : (κs : Lfts 7) (l : Lent) (X : ℕ) (k : Held) (new : List Boundary) (r : Answer) (e : TransportLeft) → SettingEnsures κs l X k new r e
@@ -72,7 +72,7 @@ pub record StaysAsItCame : Type 0 where
   pub opening : (κs : Lfts 8) (sheet : RefT (List ℕ)) (l : Lent) (r : Opened) (e : OpenLeft) → OpenEnsures κs sheet l r e → IsRefused (r .refusal)
       → (r ≡ record { refusal = r .refusal; «cell_length» = 0; boundaries = zeroBoundary ∷ zeroBoundary ∷ []; ledger = zeroLedger })
       × (e ≡ record { bed = now (l .bed); depth = now (l .depth); discharge = now (l .discharge); mass = now (l .mass); base = now (l .base); carried = now (l .carried); outlets = now (l .outlets) })
-  pub step : (κs : Lfts 7) (l : Lent) (X : ℕ) (k : Held) (t : ℕ) (r : Stepped) (e : StepLeft) → StepEnsures κs l X k t r e → IsRefused (r .refusal)
+  pub step : (κs : Lfts 7) (l : Lent) (X : ℕ) (k : Held) (t F : ℕ) (r : Stepped) (e : StepLeft) → StepEnsures κs l X k t F r e → IsRefused (r .refusal)
       → (r ≡ record { refusal = r .refusal; boundaries = k .boundaries; ledger = k .ledger; transported = false })
       × (e ≡ record { depth = now (l .depth); discharge = now (l .discharge); mass = now (l .mass); base = now (l .base); carried = now (l .carried); outlets = now (l .outlets) })
   pub transport : (κs : Lfts 7) (l : Lent) (X : ℕ) (k : Held) (r : Answer) (e : TransportLeft) → TransportEnsures κs l X k r e → IsRefused (r .refusal)

@@ -65,12 +65,12 @@ pub record NotKept (s : Reach) (t : ℕ) (r : Stepped) (e : StepLeft) : Type 0 w
 pub record DigitForDigit : Type 0 where
   pub opening : (κs : Lfts 8) (sheet : RefT (List ℕ)) (l : Lent) (r : Opened) (e : OpenLeft) → OpenEnsures κs sheet l r e → r .refusal ≡ 0
       → opened r e ≡ sheetRecord (now sheet) (loaded (now (l .outlets)))
-  pub step : (κs : Lfts 7) (l : Lent) (X : ℕ) (k : Held) (t : ℕ) (r : Stepped) (e : StepLeft) → StepEnsures κs l X k t r e → r .refusal ≡ 0
-      → stepped l X r e ≡ afterStep (given l X k) t
+  pub step : (κs : Lfts 7) (l : Lent) (X : ℕ) (k : Held) (t F : ℕ) (r : Stepped) (e : StepLeft) → StepEnsures κs l X k t F r e → r .refusal ≡ 0
+      → stepped l X r e ≡ afterStep (given l X k) t F
   -- the moment of settling: a step transports where the sums of carried water cannot be kept in some cell, and says so
-  pub kept : (κs : Lfts 7) (l : Lent) (X : ℕ) (k : Held) (t : ℕ) (r : Stepped) (e : StepLeft) → StepEnsures κs l X k t r e → r .refusal ≡ 0
+  pub kept : (κs : Lfts 7) (l : Lent) (X : ℕ) (k : Held) (t F : ℕ) (r : Stepped) (e : StepLeft) → StepEnsures κs l X k t F r e → r .refusal ≡ 0
       → ((i : ℕ) → i < length (now (l .bed)) → Covered (given l X k) t i) → Kept (given l X k) t r e
-  pub not-kept : (κs : Lfts 7) (l : Lent) (X : ℕ) (k : Held) (t : ℕ) (r : Stepped) (e : StepLeft) → StepEnsures κs l X k t r e → r .refusal ≡ 0
+  pub not-kept : (κs : Lfts 7) (l : Lent) (X : ℕ) (k : Held) (t F : ℕ) (r : Stepped) (e : StepLeft) → StepEnsures κs l X k t F r e → r .refusal ≡ 0
       → (i : ℕ) → i < length (now (l .bed)) → (Covered (given l X k) t i → ⊥) → NotKept (given l X k) t r e
   pub transport : (κs : Lfts 7) (l : Lent) (X : ℕ) (k : Held) (r : Answer) (e : TransportLeft) → TransportEnsures κs l X k r e → r .refusal ≡ 0
       → transported l X r e ≡ afterTransport (given l X k)

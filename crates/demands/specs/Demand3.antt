@@ -77,10 +77,10 @@ AfterEveryList =
 -- P of every step that is accepted after such a list: of the record that it is given, with the wants of the call, of t and of the record that it leaves
 abbrev pub OfEveryStep : (Reach → ℕ → Reach → Type 0) → Type 0
 OfEveryStep P =
-    (sheet : List ℕ) (outlets : List Outlet) (es : List Entry) (before opened s s' : Reach) (f : Free) (t : ℕ) (first : OpenLink before sheet outlets opened) →
+    (sheet : List ℕ) (outlets : List Outlet) (es : List Entry) (before opened s s' : Reach) (f : Free) (t F : ℕ) (first : OpenLink before sheet outlets opened) →
     first .r .refusal ≡ 0 →
     Chain opened es s →
-    (link : StepLink s f t s') →
+    (link : StepLink s f t F s') →
     link .r .refusal ≡ 0 →
     P (withWants (f .wants) s) t s'
 
@@ -162,12 +162,12 @@ pub record TallyCourse : Type 0 where
   pub other-pairs : (T : Tally) (f : Free) (c : Call) → ((sheet : List ℕ) (os : List Outlet) → c ≡ openCall sheet os → ⊥) → ((new : List Boundary) → c ≡ boundariesCall new → ⊥)
       → count T f c .held ≡ T .held
   -- the sums: water at every step, mass at every transport, be it called by itself, in a setting or in a step
-  pub step-water : (T : Tally) (f : Free) (t : ℕ) → refusalOf (T .own) f (stepCall t) ≡ 0 → WaterAdded (withWants (f .wants) (T .own)) t (T .sums) (count T f (stepCall t) .sums)
-  pub step-kept : (T : Tally) (f : Free) (t : ℕ) → refusalOf (T .own) f (stepCall t) ≡ 0 → ((i : ℕ) → i < length (T .own .bed) → Covered (withWants (f .wants) (T .own)) t i)
-      → MassSame (T .sums) (count T f (stepCall t) .sums) × (count T f (stepCall t) .outlets ≡ addDraws (withWants (f .wants) (T .own)) t (wanting (f .wants) (T .outlets)))
-  pub step-not-kept : (T : Tally) (f : Free) (t : ℕ) → refusalOf (T .own) f (stepCall t) ≡ 0 → (i : ℕ) → i < length (T .own .bed) → (Covered (withWants (f .wants) (T .own)) t i → ⊥) →
+  pub step-water : (T : Tally) (f : Free) (t F : ℕ) → refusalOf (T .own) f (stepCall t F) ≡ 0 → WaterAdded (withWants (f .wants) (T .own)) t (T .sums) (count T f (stepCall t F) .sums)
+  pub step-kept : (T : Tally) (f : Free) (t F : ℕ) → refusalOf (T .own) f (stepCall t F) ≡ 0 → ((i : ℕ) → i < length (T .own .bed) → Covered (withWants (f .wants) (T .own)) t i)
+      → MassSame (T .sums) (count T f (stepCall t F) .sums) × (count T f (stepCall t F) .outlets ≡ addDraws (withWants (f .wants) (T .own)) t (wanting (f .wants) (T .outlets)))
+  pub step-not-kept : (T : Tally) (f : Free) (t F : ℕ) → refusalOf (T .own) f (stepCall t F) ≡ 0 → (i : ℕ) → i < length (T .own .bed) → (Covered (withWants (f .wants) (T .own)) t i → ⊥) →
       let w = withWants (f .wants) (T .own) in
-      MassAdded w (T .sums) (count T f (stepCall t) .sums) × (count T f (stepCall t) .outlets ≡ addDraws w t (addOutletMass w (wanting (f .wants) (T .outlets))))
+      MassAdded w (T .sums) (count T f (stepCall t F) .sums) × (count T f (stepCall t F) .outlets ≡ addDraws w t (addOutletMass w (wanting (f .wants) (T .outlets))))
   pub transport-water : (T : Tally) (f : Free) → WaterSame (T .sums) (count T f transportCall .sums)
   pub transport-mass : (T : Tally) (f : Free) → refusalOf (T .own) f transportCall ≡ 0 →
       let w = withWants (f .wants) (T .own) in

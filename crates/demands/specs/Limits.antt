@@ -9,6 +9,7 @@ use lib.ListN.{length, getD}
 use lib.Signed.{leZ}
 use Rattle.numbers.specs.Index.{allOf, allBelow, tabulate, sum}
 use Rattle.numbers.specs.Signed.{positive, eqℤ}
+use Rattle.friction.specs.Friction.{stricklerFits}
 use Rattle.cfl.specs.Cfl.{meetsCfl}
 use Rattle.outlet.specs.Outlets.{noOutlet}
 use Rattle.outlet.specs.declared.Outlet.{Outlet}
@@ -117,6 +118,8 @@ pub record Limits : Type 0 where
       → allTotalsFit h ≡ allOf (ledgerFits (h .ledger) ∷ allBelow (h .outlets .count) (λ k. outletTotalsFit (getD (h .outlets .list) k noOutlet)) ∷ [])
   -- 10: t is 1..1,000
   pub time : (t : ℕ) → timeFits t ≡ allOf (leb 1 t ∷ leb t 1_000 ∷ [])
+  -- 17: F is 0 or 10..90
+  pub strickler : (F : ℕ) → stricklerFits F ≡ (eqb F 0 || allOf (leb 10 F ∷ leb F 90 ∷ []))
   -- 11: t·(|u|+a) ≤ 1,000·X at the places 0..n+1 (|u|+a is 0 at a boundary that is not fed)
   pub cfl : (s : Reach) (t : ℕ)
       → meetsCfl (placeSpeed s) (cells s + 1) (s .cellLength) t
@@ -145,14 +148,15 @@ pub record Lists : Type 0 where
       ∷ ground 8 (carriedFit (s .depth) (s .base) (s .carried) (drawnFrom (s .held .outlets)) (getD (s .held .boundaries) 0 noBoundary .kind) (getD (s .held .boundaries) 1 noBoundary .kind))
       ∷ ground 9 (allTotalsFit (s .held))
       ∷ []
-  -- 'then a step uses 10 to 13, a settling or end setting 13, a write 14 and 15'
-  pub step-list : (s : Reach) (t : ℕ)
-      → stepGrounds s t
+  -- 'then a step uses 10 to 13, a settling or end setting 13, a write 14 and 15', with 17 'checked after 10'
+  pub step-list : (s : Reach) (t F : ℕ)
+      → stepGrounds s t F
       ≡ recordGrounds s (s .held .boundaries)
       ++ (ground 10 (timeFits t)
+      ∷ ground 17 (stricklerFits F)
       ∷ ground 11 (meetsCfl (placeSpeed s) (cells s + 1) (s .cellLength) t)
       ∷ ground 12 (depthsFit s t)
-      ∷ ground 13 (allTotalsFit (afterStep s t .held))
+      ∷ ground 13 (allTotalsFit (afterStep s t F .held))
       ∷ [])
   pub transport-list : (s : Reach) (es : List Boundary) → transportGrounds s es ≡ recordGrounds s es ++ (ground 13 (allTotalsFit (afterTransport s .held)) ∷ [])
   pub write-list : (s : Reach) (room : ℕ)

@@ -96,7 +96,7 @@ pub record WithNoOutlet : Type 0 where
       → keepsSums s t
       ≡ allBelow (cells s) (λ i. leb (positive (carriedAt s (suc i) +ℤ netAt s t (suc i)) + positive (negℤ (carriedAt s i +ℤ netAt s t i))) (baseAt s i))
   -- and the list stays empty
-  pub step-none : (s : Reach) (t : ℕ) → s .held .outlets .count ≡ 0 → afterStep s t .held .outlets .count ≡ 0
+  pub step-none : (s : Reach) (t F : ℕ) → s .held .outlets .count ≡ 0 → afterStep s t F .held .outlets .count ≡ 0
   pub transport-none : (s : Reach) → s .held .outlets .count ≡ 0 → afterTransport s .held .outlets .count ≡ 0
 
 -- 'a dry cell keeps a grain' is an error: after an accepted settling a cell that gave all its water, to its outlets too, holds only what came to it over its two interfaces
@@ -165,7 +165,7 @@ pub record UnroundedCfl (s : Reach) (t spare : ℕ) : Type 0 where
 -- 'Users compare our greatest step with the CFL of report 4529 and find it sometimes some milliseconds too long': as to the wave speed it is not, and no accepted step is. (u is cut
 -- towards zero in it as everywhere: of |q/h| up to 1 mm/s is left out)
 pub record NotTooLong : Type 0 where
-  pub step : (κs : Lfts 7) (l : Lent) (X : ℕ) (k : Held) (t : ℕ) (r : Stepped) (e : StepLeft) → StepEnsures κs l X k t r e → r .refusal ≡ 0 → UnroundedCfl (given l X k) t 0
+  pub step : (κs : Lfts 7) (l : Lent) (X : ℕ) (k : Held) (t F : ℕ) (r : Stepped) (e : StepLeft) → StepEnsures κs l X k t F r e → r .refusal ≡ 0 → UnroundedCfl (given l X k) t 0
   pub greatest : (κs : Lfts 7) (l : Lent) (X : ℕ) (k : Held) (r : Greatest) → GreatestEnsures κs l X k r → r .refusal ≡ 0 → UnroundedCfl (given l X k) (r .time) 0
   -- nor much too short: what meets it with 1 mm/s more meets ours, so that no step that does is longer than the greatest
   pub nearly : (t X h v : ℕ) → UnroundedCflAt t X h (v + 1) → t * (v + waveSpeed h) ≤ 1_000 * X
@@ -178,7 +178,7 @@ Stands s = (pair : List Boundary) → boundariesFit pair ≡ true → First 0 (r
 
 pub record StandsAgain : Type 0 where
   pub opening : (κs : Lfts 8) (sheet : RefT (List ℕ)) (l : Lent) (r : Opened) (e : OpenLeft) → OpenEnsures κs sheet l r e → r .refusal ≡ 0 → Stands (opened r e)
-  pub step : (κs : Lfts 7) (l : Lent) (X : ℕ) (k : Held) (t : ℕ) (r : Stepped) (e : StepLeft) → StepEnsures κs l X k t r e → r .refusal ≡ 0 → Stands (stepped l X r e)
+  pub step : (κs : Lfts 7) (l : Lent) (X : ℕ) (k : Held) (t F : ℕ) (r : Stepped) (e : StepLeft) → StepEnsures κs l X k t F r e → r .refusal ≡ 0 → Stands (stepped l X r e)
   pub transport : (κs : Lfts 7) (l : Lent) (X : ℕ) (k : Held) (r : Answer) (e : TransportLeft) → TransportEnsures κs l X k r e → r .refusal ≡ 0 → Stands (transported l X r e)
   pub set-boundaries : (κs : Lfts 7) (l : Lent) (X : ℕ) (k : Held) (new : List Boundary) (r : Answer) (e : TransportLeft) → SettingEnsures κs l X k new r e → r .refusal ≡ 0
       → Stands (transported l X r e)

@@ -3,6 +3,7 @@ ghost use Rattle.demands.specs.Demand1.{AsksNothing, RefusedByTheFirst, 
 ghost use Rattle.demands.specs.Limits.{Limits, Lists};
 ghost use Rattle.demands.specs.Demand2.{DigitForDigit, ReadBack, WroteAgain};
 ghost use Rattle.demands.specs.Demand3.{AfterEveryList, NoDepthBelowZero, NoWantExceeded, AvailableFromZero, TallyCourse};
+ghost use Rattle.demands.specs.Friction.{Friction, WithoutFriction};
 ghost use Rattle.demands.specs.Model.{Amounts, Drawing, WithNoOutlet, NoGrainKept, GreatestStep, OneFastest, NotTooLong, StandsAgain};
 
 pub fn demand_1()
@@ -41,4 +42,10 @@ pub fn model()
     ensures { λ _. ⌜ OneFastest ⌝ }
     ensures { λ _. ⌜ NotTooLong ⌝ }
     ensures { λ _. ⌜ StandsAgain ⌝ }
+{}
+
+// Document 02, point 4
+pub fn friction()
+    ensures { λ _. ⌜ Friction ⌝ }
+    ensures { λ _. ⌜ WithoutFriction ⌝ }
 {}

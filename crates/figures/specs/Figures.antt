@@ -1,4 +1,4 @@
--- Document 01, 'Figures to meet': the starred figures, in one table, with the wave speed of document 02, point 3. Depths in micrometres, X in mm, t in ms.
+-- Document 01, 'Figures to meet': the starred figures, in one table, with the wave speed of document 02, point 3, and three of the list of its point 4. Depths in micrometres, X in mm, t in ms.
 use mathlib.Core.Path.{_≡_}
 use mathlib.Core.List.{[], _∷_}
 use Prim.Native.Nat.{ℕ, _+_}
@@ -6,6 +6,7 @@ use lib.IntN.{pos}
 use Rattle.numbers.specs.Shares.{shares, rest}
 use Rattle.flux.specs.Wave.{waveSpeed}
 use Rattle.flux.specs.Crossing.{waterFlux, momentumFlux}
+use Rattle.friction.specs.Friction.{fourThirds}
 
 pub record Figures : Type 0 where
   -- a(0) = 0, a(1) = 4, a(100,000) = 1,213, a(1,000,000) = 3,836, a(4,000,000) = 7,671
@@ -21,3 +22,7 @@ pub record Figures : Type 0 where
   -- b 2, m 1, R = L = 1: shares 0 and 1, none stays
   pub shares-of-1 : shares 1 2 0 (1 ∷ 1 ∷ []) ≡ 0 ∷ 1 ∷ []
   pub none-stays : rest 1 2 (1 + 1) ≡ 0
+  -- the greatest r with r³ ≤ 1,000·k⁴: 10³ = 1,000; 4,641³ = 99,961,946,721 ≤ 100,000,000,000 < 4,642³; 29,472³ ≤ 25,600,000,000,000 < 29,473³
+  pub r-1 : fourThirds 1 ≡ 10
+  pub r-100 : fourThirds 100 ≡ 4_641
+  pub r-400 : fourThirds 400 ≡ 29_472

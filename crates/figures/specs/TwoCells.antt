@@ -32,10 +32,10 @@ twoCells = record {
 }
 
 abbrev pub afterwards : Outcome
-afterwards = transport (step twoCells 100 .reach)
+afterwards = transport (step twoCells 100 0 .reach)
 
 pub record TwoCellRun : Type 0 where
-  pub step-accepted : step twoCells 100 .refusal ≡ 0
+  pub step-accepted : step twoCells 100 0 .refusal ≡ 0
   pub transport-accepted : afterwards .refusal ≡ 0
   pub depths : afterwards .reach .depth ≡ 907_132 ∷ 192_868 ∷ []
   pub discharges : afterwards .reach .discharge ≡ pos 242_795_920 ∷ pos 242_795_920 ∷ []
@@ -56,5 +56,5 @@ oneCell = record {
 }
 
 pub record CflFigure : Type 0 where
-  pub t-260 : step oneCell 260 .refusal ≡ 0
-  pub t-261 : step oneCell 261 .refusal ≡ 11
+  pub t-260 : step oneCell 260 0 .refusal ≡ 0
+  pub t-261 : step oneCell 261 0 .refusal ≡ 11

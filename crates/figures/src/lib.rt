@@ -1,5 +1,6 @@
 // The starred figures of document 01, with the wave speed of document 02, point 3. A function without effect ensures them, so that the gate proves the whole table.
 ghost use Rattle.figures.specs.Figures.{Figures};
+ghost use Rattle.figures.specs.Friction.{FrictionFigure};
 ghost use Rattle.figures.specs.TwoCells.{TwoCellRun, CflFigure};
 
 pub fn figures_met()
@@ -9,4 +10,9 @@ pub fn figures_met()
 // The two-cell run and the CFL figure of document 01, with that wave speed, computed from the definitions
 pub fn two_cell_run_met()
     ensures { λ _. ⌜ TwoCellRun × CflFigure ⌝ }
+{}
+
+// One cell with friction, by hand
+pub fn friction_met()
+    ensures { λ _. ⌜ FrictionFigure ⌝ }
 {}

@@ -1,6 +1,6 @@
 -- The six C functions, by name, for what is stated of them above: what each asks of its arguments and what it ensures, as their contracts stand in
 -- src/lib.rt. `Pre` and `Post` of a function compute to its `requires` and its `ensures`: `Post` to the definition of the call, as `StepCameTo (given
--- l X k) t r ..` of a step (Says.antt). The arguments are those of include/jemmyfern.h, in its order; they stand here once.
+-- l X k) t F r ..` of a step (Says.antt). The arguments are those of include/jemmyfern.h, in its order; they stand here once.
 use mathlib.Core.List.{List}
 use Prim.Native.Nat.{ℕ}
 use contract.Lifetimes.{Lfts}
@@ -80,15 +80,15 @@ OpenEnsures κs sheet l r e =
 
 -- ---- jemmyfern_step
 
-abbrev pub StepAsks : Lfts 7 → Lent → (X : ℕ) → Held → (t : ℕ) → Type 0
-StepAsks κs l X k t = step-reads.Pre κs (l .bed, (l .depth, (l .discharge, (l .mass, (l .base, (l .carried, (l .outlets, (X, (pair (k .boundaries), (k .ledger, (t, tt)))))))))))
+abbrev pub StepAsks : Lfts 7 → Lent → (X : ℕ) → Held → (t F : ℕ) → Type 0
+StepAsks κs l X k t F = step-reads.Pre κs (l .bed, (l .depth, (l .discharge, (l .mass, (l .base, (l .carried, (l .outlets, (X, (pair (k .boundaries), (k .ledger, (t, (F, tt))))))))))))
 
-abbrev pub StepEnsures : Lfts 7 → Lent → (X : ℕ) → Held → (t : ℕ) → Stepped → StepLeft → Type 0
-StepEnsures κs l X k t r e =
+abbrev pub StepEnsures : Lfts 7 → Lent → (X : ℕ) → Held → (t F : ℕ) → Stepped → StepLeft → Type 0
+StepEnsures κs l X k t F r e =
     step-reads.Post κs
-    (l .bed, (l .depth, (l .discharge, (l .mass, (l .base, (l .carried, (l .outlets, (X, (pair (k .boundaries), (k .ledger, (t, tt)))))))))))
+    (l .bed, (l .depth, (l .discharge, (l .mass, (l .base, (l .carried, (l .outlets, (X, (pair (k .boundaries), (k .ledger, (t, (F, tt))))))))))))
     r
-    (l .bed, (at-last (l .depth) (e .depth), (at-last (l .discharge) (e .discharge), (at-last (l .mass) (e .mass), (at-last (l .base) (e .base), (at-last (l .carried) (e .carried), (at-last (l .outlets) (e .outlets), (X, (pair (k .boundaries), (k .ledger, (t, tt)))))))))))
+    (l .bed, (at-last (l .depth) (e .depth), (at-last (l .discharge) (e .discharge), (at-last (l .mass) (e .mass), (at-last (l .base) (e .base), (at-last (l .carried) (e .carried), (at-last (l .outlets) (e .outlets), (X, (pair (k .boundaries), (k .ledger, (t, (F, tt))))))))))))
 
 -- ---- jemmyfern_transport
 

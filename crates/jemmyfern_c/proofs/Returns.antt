@@ -47,15 +47,15 @@ back os out room k a e f =
 as-given : (es : List Boundary) (l : Ledger) (os : List Outlet) (list : Outlets) (k : Held) → list ≡ loaded os → k ≡ heldWith es l list → k ≡ givenHeld es l os
 as-given es l os list k e f = f ∙ ap (λ (x : Outlets). heldWith es l x) e
 
-pub step-returns : (z : List ℤ) (h : List ℕ) (q : List ℤ) (m b : List ℕ) (c : List ℤ) (X : ℕ) (es : List Boundary) (l : Ledger) (os out room : List Outlet) (list : Outlets) (k : Held) (t : ℕ) (h′ : List ℕ) (q′ : List ℤ) (m′ b′ : List ℕ) (c′ : List ℤ) (a : StepAnswer) (r : Stepped) → list ≡ loaded os → k ≡ heldWith es l list → StepCameTo (reachOf z h q m b c X k) t a h′ q′ m′ b′ c′ → room ≡ a .held .outlets .list → out ≡ over room os → r ≡ steppedOf a
-    → StepCameTo (reachOf z h q m b c X (givenHeld es l os)) t (stepWith r out) h′ q′ m′ b′ c′ × RestKept os out
-step-returns z h q m b c X es l os out room list k t h′ q′ m′ b′ c′ a r loads holds came rooms stores answers =
+pub step-returns : (z : List ℤ) (h : List ℕ) (q : List ℤ) (m b : List ℕ) (c : List ℤ) (X : ℕ) (es : List Boundary) (l : Ledger) (os out room : List Outlet) (list : Outlets) (k : Held) (t F : ℕ) (h′ : List ℕ) (q′ : List ℤ) (m′ b′ : List ℕ) (c′ : List ℤ) (a : StepAnswer) (r : Stepped) → list ≡ loaded os → k ≡ heldWith es l list → StepCameTo (reachOf z h q m b c X k) t F a h′ q′ m′ b′ c′ → room ≡ a .held .outlets .list → out ≡ over room os → r ≡ steppedOf a
+    → StepCameTo (reachOf z h q m b c X (givenHeld es l os)) t F (stepWith r out) h′ q′ m′ b′ c′ × RestKept os out
+step-returns z h q m b c X es l os out room list k t F h′ q′ m′ b′ c′ a r loads holds came rooms stores answers =
     let given : Reach = reachOf z h q m b c X (givenHeld es l os) in
-    let came-to : StepCameTo given t a h′ q′ m′ b′ c′ = subst (λ (x : Held). StepCameTo (reachOf z h q m b c X x) t a h′ q′ m′ b′ c′) (as-given es l os list k loads holds) came in
-    let kept : AsLoaded (length os) (a .held .outlets) = subst (λ (x : Held). AsLoaded (length os) (x .outlets)) (sym (came-to .held-is)) (step-as-loaded (length os) given t (loaded-as-loaded os)) in
+    let came-to : StepCameTo given t F a h′ q′ m′ b′ c′ = subst (λ (x : Held). StepCameTo (reachOf z h q m b c X x) t F a h′ q′ m′ b′ c′) (as-given es l os list k loads holds) came in
+    let kept : AsLoaded (length os) (a .held .outlets) = subst (λ (x : Held). AsLoaded (length os) (x .outlets)) (sym (came-to .held-is)) (step-as-loaded (length os) given t (loaded-as-loaded os) F) in
     let left : Back os out (a .held) = back os out room (a .held) kept rooms stores in
     let is : stepWith r out ≡ a = ap (λ (x : Stepped). stepWith x out) answers ∙ ap {B = StepAnswer} (λ (x : Held). record { refusal = a .refusal; held = x; transported = a .transported }) (left .again) in
-    (subst (λ (x : StepAnswer). StepCameTo given t x h′ q′ m′ b′ c′) (sym is) came-to, left .rest)
+    (subst (λ (x : StepAnswer). StepCameTo given t F x h′ q′ m′ b′ c′) (sym is) came-to, left .rest)
 
 pub transport-returns : (z : List ℤ) (h : List ℕ) (q : List ℤ) (m b : List ℕ) (c : List ℤ) (X : ℕ) (es : List Boundary) (l : Ledger) (os out room : List Outlet) (list : Outlets) (k : Held) (m′ b′ : List ℕ) (c′ : List ℤ) (a : TransportAnswer) (r : Answer) → list ≡ loaded os → k ≡ heldWith es l list → CameTo (transport (reachOf z h q m b c X k)) a m′ b′ c′ → room ≡ a .held .outlets .list → out ≡ over room os → r ≡ transportedOf a
     → CameTo (transport (reachOf z h q m b c X (givenHeld es l os))) (transportWith r out) m′ b′ c′ × RestKept os out

@@ -40,8 +40,8 @@ use Rattle.jemmyfern_c.proofs.Functions.{pair, Lent, given, OpenLeft, S
 pub open-asks-nothing : (κs : Lfts 8) (sheet : RefT (List ℕ)) (l : Lent) → OpenAsks κs sheet l
 open-asks-nothing κs sheet l = tt
 
-pub step-asks-nothing : (κs : Lfts 7) (l : Lent) (X : ℕ) (k : Held) (t : ℕ) → StepAsks κs l X k t
-step-asks-nothing κs l X k t = tt
+pub step-asks-nothing : (κs : Lfts 7) (l : Lent) (X : ℕ) (k : Held) (t F : ℕ) → StepAsks κs l X k t F
+step-asks-nothing κs l X k t F = tt
 
 pub transport-asks-nothing : (κs : Lfts 7) (l : Lent) (X : ℕ) (k : Held) → TransportAsks κs l X k
 transport-asks-nothing κs l X k = tt
@@ -60,9 +60,9 @@ pub open-says : (κs : Lfts 8) (sheet : RefT (List ℕ)) (l : Lent) (r : Opened)
     → OpenEnsures κs sheet l r e ≡ (OpenCameTo (opening (now sheet) (reachOf (now (l .bed)) (now (l .depth)) (now (l .discharge)) (now (l .mass)) (now (l .base)) (now (l .carried)) 0 (noneHeld (loaded (now (l .outlets)))))) (openWith r (e .outlets)) (e .bed) (e .depth) (e .discharge) (e .mass) (e .base) (e .carried) × RestKept (now (l .outlets)) (e .outlets))
 open-says κs sheet l r e = refl
 
-pub step-says : (κs : Lfts 7) (l : Lent) (X : ℕ) (k : Held) (t : ℕ) (r : Stepped) (e : StepLeft)
-    → StepEnsures κs l X k t r e ≡ (StepCameTo (given l X k) t (stepWith r (e .outlets)) (e .depth) (e .discharge) (e .mass) (e .base) (e .carried) × RestKept (now (l .outlets)) (e .outlets))
-step-says κs l X k t r e = refl
+pub step-says : (κs : Lfts 7) (l : Lent) (X : ℕ) (k : Held) (t F : ℕ) (r : Stepped) (e : StepLeft)
+    → StepEnsures κs l X k t F r e ≡ (StepCameTo (given l X k) t F (stepWith r (e .outlets)) (e .depth) (e .discharge) (e .mass) (e .base) (e .carried) × RestKept (now (l .outlets)) (e .outlets))
+step-says κs l X k t F r e = refl
 
 pub transport-says : (κs : Lfts 7) (l : Lent) (X : ℕ) (k : Held) (r : Answer) (e : TransportLeft)
     → TransportEnsures κs l X k r e ≡ (CameTo (transport (given l X k)) (transportWith r (e .outlets)) (e .mass) (e .base) (e .carried) × RestKept (now (l .outlets)) (e .outlets))
@@ -95,8 +95,8 @@ module _ {M : Type 1} (𝓤 : URA M) (H : Heap 𝓤) (A : Atoms 𝓤) (mem : Mem
   pub step-owes-nothing : AsksNothing 𝓤 step-clauses.signature (step-clauses.spec 𝓤 H A mem run)
   step-owes-nothing κs a g = refl
 
-  pub step-clause : (κs : Lfts 7) (l : Lent) (X : ℕ) (k : Held) (t : ℕ) (r : Stepped) (e : StepLeft) → step-clauses.ensures-1 𝓤 H κs A mem run (l .bed) (l .depth) (l .discharge) (l .mass) (l .base) (l .carried) (l .outlets) X (pair (k .boundaries)) (k .ledger) t (record { entry = l .bed; exit = l .bed }) (record { entry = l .depth; exit = at-last (l .depth) (e .depth) }) (record { entry = l .discharge; exit = at-last (l .discharge) (e .discharge) }) (record { entry = l .mass; exit = at-last (l .mass) (e .mass) }) (record { entry = l .base; exit = at-last (l .base) (e .base) }) (record { entry = l .carried; exit = at-last (l .carried) (e .carried) }) (record { entry = l .outlets; exit = at-last (l .outlets) (e .outlets) }) (record { entry = X; exit = X }) (record { entry = pair (k .boundaries); exit = pair (k .boundaries) }) (record { entry = k .ledger; exit = k .ledger }) (record { entry = t; exit = t }) r ≡ fact 𝓤 (StepEnsures κs l X k t r e)
-  step-clause κs l X k t r e = refl
+  pub step-clause : (κs : Lfts 7) (l : Lent) (X : ℕ) (k : Held) (t F : ℕ) (r : Stepped) (e : StepLeft) → step-clauses.ensures-1 𝓤 H κs A mem run (l .bed) (l .depth) (l .discharge) (l .mass) (l .base) (l .carried) (l .outlets) X (pair (k .boundaries)) (k .ledger) t F (record { entry = l .bed; exit = l .bed }) (record { entry = l .depth; exit = at-last (l .depth) (e .depth) }) (record { entry = l .discharge; exit = at-last (l .discharge) (e .discharge) }) (record { entry = l .mass; exit = at-last (l .mass) (e .mass) }) (record { entry = l .base; exit = at-last (l .base) (e .base) }) (record { entry = l .carried; exit = at-last (l .carried) (e .carried) }) (record { entry = l .outlets; exit = at-last (l .outlets) (e .outlets) }) (record { entry = X; exit = X }) (record { entry = pair (k .boundaries); exit = pair (k .boundaries) }) (record { entry = k .ledger; exit = k .ledger }) (record { entry = t; exit = t }) (record { entry = F; exit = F }) r ≡ fact 𝓤 (StepEnsures κs l X k t F r e)
+  step-clause κs l X k t F r e = refl
 
   pub transport-owes-nothing : AsksNothing 𝓤 transport-clauses.signature (transport-clauses.spec 𝓤 H A mem run)
   transport-owes-nothing κs a g = refl

@@ -63,12 +63,13 @@ pub extern "C" fn jemmyfern_step(
     boundaries: Boundaries,
     ledger: Ledger,
     t: u64,
+    f: u64,
 ) -> Stepped
-    ensures { λ r. ⌜ StepCameTo (came bed depth discharge mass base carried x (givenHeld (boundaries .boundaries) ledger (now (outlets .entry)))) t (stepWith r (now (outlets .exit))) (now (depth .exit)) (now (discharge .exit)) (now (mass .exit)) (now (base .exit)) (now (carried .exit)) × RestKept (now (outlets .entry)) (now (outlets .exit)) ⌝ }
+    ensures { λ r. ⌜ StepCameTo (came bed depth discharge mass base carried x (givenHeld (boundaries .boundaries) ledger (now (outlets .entry)))) t f (stepWith r (now (outlets .exit))) (now (depth .exit)) (now (discharge .exit)) (now (mass .exit)) (now (base .exit)) (now (carried .exit)) × RestKept (now (outlets .entry)) (now (outlets .exit)) ⌝ }
 {
     let list = load(outlets);
     let held = given_held(boundaries, ledger, list);
-    let a = stepping::step::step(bed, depth, discharge, mass, base, carried, x, held, t);
+    let a = stepping::step::step(bed, depth, discharge, mass, base, carried, x, held, t, f);
     let room = room_of(a.held);
     store(outlets, room);
     step_answer(a)

@@ -17,13 +17,13 @@ use Rattle.play.specs.Ranges.{PlayedTo}
 use Rattle.play.specs.declared.Ran.{Ran}
 
 -- one step of those that are left
-pub steps-on : (count i t : ℕ) (s n : Reach) → i < count → step s t .refusal ≡ 0 → n ≡ step s t .reach → steps (count - i) t s ≡ steps (count - (i + 1)) t n
+pub steps-on : (count i t : ℕ) (s n : Reach) → i < count → step s t 0 .refusal ≡ 0 → n ≡ step s t 0 .reach → steps (count - i) t s ≡ steps (count - (i + 1)) t n
 unfolding steps
 steps-on count i t s n l e f =
     let k : count - i ≡ suc (count - (i + 1)) = omega arith in
     rw (k, eq-eqb _ _ e, f) refl
 
-pub steps-stop : (count i t : ℕ) (s : Reach) → i < count → (step s t .refusal ≡ 0 → ⊥) → steps (count - i) t s ≡ step s t
+pub steps-stop : (count i t : ℕ) (s : Reach) → i < count → (step s t 0 .refusal ≡ 0 → ⊥) → steps (count - i) t s ≡ step s t 0
 unfolding steps
 steps-stop count i t s l e =
     let k : count - i ≡ suc (count - (i + 1)) = omega arith in

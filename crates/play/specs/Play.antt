@@ -14,10 +14,10 @@ use Rattle.sheet.specs.Opening.{opening}
 abbrev pub andThen : Outcome → (Reach → Outcome) → Outcome
 andThen o f = cond (eqb (o .refusal) 0) (f (o .reach)) o
 
--- k steps of t, one after the other
+-- k steps of t, one after the other, without friction: 'F is given with the step, 0 by the program' (document 02, point 4)
 unfoldable pub steps : (k t : ℕ) → Reach → Outcome
 steps zero t s = record { refusal = 0; reach = s }
-steps (suc k) t s = andThen (step s t) (λ r. steps k t r)
+steps (suc k) t s = andThen (step s t 0) (λ r. steps k t r)
 
 abbrev pub countMost : ℕ
 countMost = 1_000

@@ -35,7 +35,7 @@ fn run_steps(
     let mut last = held;
     let mut i = 0;
     while i < count {
-        let r = step(bed, depth, discharge, mass, base, carried, x, last, t);
+        let r = step(bed, depth, discharge, mass, base, carried, x, last, t, 0);
         let next = r.held;
         if r.refusal != 0 {
             return Ran {

@@ -28,16 +28,16 @@ use Rattle.script.specs.Script.{boundaryFrom, part, outletsFrom, callAt}
 use Rattle.player.specs.Plays.{cameTo, Plays}
 use Rattle.player.specs.declared.Played.{Played}
 
-pub plays-step : (s : Reach) (f : Free) (t : ℕ) {r : StepAnswer} {h : List ℕ} {q : List ℤ} {m b : List ℕ} {c : List ℤ} → StepCameTo (withWants (f .wants) s) t r h q m b c → (out : List ℕ)
-    → Plays s f (stepCall t) out
+pub plays-step : (s : Reach) (f : Free) (t F : ℕ) {r : StepAnswer} {h : List ℕ} {q : List ℤ} {m b : List ℕ} {c : List ℤ} → StepCameTo (withWants (f .wants) s) t F r h q m b c → (out : List ℕ)
+    → Plays s f (stepCall t F) out
     (record { refusal = r .refusal; transported = r .transported; time = 0; place = 0; «cell_length» = s .cellLength; held = r .held })
     (s .bed) h q m b c out
-plays-step s f t k out = record {
+plays-step s f t F k out = record {
   refusal-is = k .refusal-is;
   transported-is = k .transported-is;
   time-is = refl;
   place-is = refl;
-  reach-is = step-next s f t k;
+  reach-is = step-next s f t F k;
   output-is = refl;
 }
 
@@ -131,7 +131,7 @@ cut-part sheets a b from to end p e f =
 -- ---- which call it is
 
 module _ (ws sheets : List ℕ) (room at : ℕ) where
-  pub is-step : getD ws at 0 ≡ 0 → callAt ws sheets room at ≡ stepCall (getD ws (at + 1) 0)
+  pub is-step : getD ws at 0 ≡ 0 → callAt ws sheets room at ≡ stepCall (getD ws (at + 1) 0) (getD ws (at + 2) 0)
   unfolding callAt
   is-step e = rw e refl
 

@@ -15,7 +15,7 @@ use Rattle.tally.specs.Call.{Free, Call, stepCall, transportCall, boundariesCal
 use Rattle.player.specs.declared.Played.{Played}
 
 abbrev pub transportedBy : Reach → Free → Call → Bool
-transportedBy s f (stepCall t) = transports (withWants (f .wants) s) t
+transportedBy s f (stepCall t F) = transports (withWants (f .wants) s) t F
 transportedBy s f transportCall = false
 transportedBy s f (boundariesCall es) = false
 transportedBy s f greatestCall = false
@@ -23,7 +23,7 @@ transportedBy s f (writeCall room) = false
 transportedBy s f (openCall sheet os) = false
 
 abbrev pub timeBy : Reach → Free → Call → ℕ
-timeBy s f (stepCall t) = 0
+timeBy s f (stepCall t F) = 0
 timeBy s f transportCall = 0
 timeBy s f (boundariesCall es) = 0
 timeBy s f greatestCall = greatest (withWants (f .wants) s) .time
@@ -31,7 +31,7 @@ timeBy s f (writeCall room) = 0
 timeBy s f (openCall sheet os) = 0
 
 abbrev pub placeBy : Reach → Free → Call → ℕ
-placeBy s f (stepCall t) = 0
+placeBy s f (stepCall t F) = 0
 placeBy s f transportCall = 0
 placeBy s f (boundariesCall es) = 0
 placeBy s f greatestCall = greatest (withWants (f .wants) s) .place
@@ -40,7 +40,7 @@ placeBy s f (openCall sheet os) = 0
 
 -- a write is lent the first `room` bytes of the output
 abbrev pub outputOf : Reach → Free → Call → (out : List ℕ) → List ℕ
-outputOf s f (stepCall t) out = out
+outputOf s f (stepCall t F) out = out
 outputOf s f transportCall out = out
 outputOf s f (boundariesCall es) out = out
 outputOf s f greatestCall out = out

@@ -56,7 +56,8 @@ fn play_moving(
     let word = words[at];
     if word == 0 {
         let t = words[at + 1];
-        let r = step(bed, depth, discharge, mass, base, carried, x, wanted, t);
+        let f = words[at + 2];
+        let r = step(bed, depth, discharge, mass, base, carried, x, wanted, t, f);
         let after = r.held;
         return Played {
             refusal: r.refusal,

@@ -36,7 +36,7 @@ tenOf (e ∷ f ∷ g ∷ es) = 0 ∷ 0 ∷ 0 ∷ 0 ∷ 0 ∷ 0 ∷ 0 ∷ 0 ∷ 0
 
 -- one call's thirteen, where its sheet, if it has one, stands from byte `start` on
 callWords : (start : ℕ) → Call → List ℕ
-callWords start (stepCall t) = 0 ∷ t ∷ 0 ∷ tenOf []
+callWords start (stepCall t F) = 0 ∷ t ∷ F ∷ tenOf []
 callWords start transportCall = 1 ∷ 0 ∷ 0 ∷ tenOf []
 callWords start (boundariesCall es) = 2 ∷ 0 ∷ 0 ∷ tenOf es
 callWords start greatestCall = 3 ∷ 0 ∷ 0 ∷ tenOf []
@@ -45,7 +45,7 @@ callWords start (openCall sheet os) = 5 ∷ start ∷ (start + length sheet) ∷
 
 -- the list lent to an opening
 lentBy : Call → List Outlet
-lentBy (stepCall t) = []
+lentBy (stepCall t F) = []
 lentBy transportCall = []
 lentBy (boundariesCall es) = []
 lentBy greatestCall = []
@@ -64,7 +64,7 @@ oneOf : (start : ℕ) → Entry → List ℕ
 oneOf start e = callWords start (e .call) ++ (e .free .wants ++ lentWords (lentBy (e .call)))
 
 roomBy : Call → ℕ
-roomBy (stepCall t) = 0
+roomBy (stepCall t F) = 0
 roomBy transportCall = 0
 roomBy (boundariesCall es) = 0
 roomBy greatestCall = 0
@@ -98,7 +98,7 @@ ten-length (e ∷ f ∷ g ∷ es) = refl
 
 call-length : (start : ℕ) (c : Call) → length (callWords start c) ≡ 13
 unfolding callWords tenOf
-call-length start (stepCall t) = refl
+call-length start (stepCall t F) = refl
 call-length start transportCall = refl
 call-length start (boundariesCall es) = ap (λ (n : ℕ). suc (suc (suc n))) (ten-length es)
 call-length start greatestCall = refl
@@ -118,7 +118,7 @@ lent-length os few =
 
 few-lent : (c : Call) → Given c → length (lentBy c) ≤ outletsMost
 unfolding lentBy
-few-lent (stepCall t) g = omega arith
+few-lent (stepCall t F) g = omega arith
 few-lent transportCall g = omega arith
 few-lent (boundariesCall es) g = omega arith
 few-lent greatestCall g = omega arith
@@ -270,7 +270,7 @@ outlets-back os p q at e =
 call-back : (c : Call) (start : ℕ) (front tail sheets q : List ℕ) (room : ℕ) → Given c → length front ≡ start
     → sheets ≡ front ++ (sheetPart c ++ tail) → roomBy c ≤ room → outletsFrom (callWords start c ++ q) 45 ≡ lentBy c → callAt (callWords start c ++ q) sheets room 0 ≡ c
 unfolding callAt callWords tenOf roomBy lentBy
-call-back (stepCall t) start front tail sheets q room g e s r o = refl
+call-back (stepCall t F) start front tail sheets q room g e s r o = refl
 call-back transportCall start front tail sheets q room g e s r o = refl
 call-back (boundariesCall es) start front tail sheets q room g e s r o = boundaries-back es q sheets room (g .0) (g .1)
 call-back greatestCall start front tail sheets q room g e s r o = refl
@@ -358,7 +358,7 @@ ten-fit (e ∷ f ∷ g ∷ es) n s = absurd (omega arith)
 
 call-fit : (start : ℕ) (c : Call) → Given c → Word (start + length (sheetPart c)) → Each Word (callWords start c)
 unfolding Each callWords
-call-fit start (stepCall t) g l = (omega arith, (g, (omega arith, zeros-fit)))
+call-fit start (stepCall t F) g l = (omega arith, (g .0, (g .1, zeros-fit)))
 call-fit start transportCall g l = (omega arith, (omega arith, (omega arith, zeros-fit)))
 call-fit start (boundariesCall es) g l = (omega arith, (omega arith, (omega arith, ten-fit es (g .0) (g .1))))
 call-fit start greatestCall g l = (omega arith, (omega arith, (omega arith, zeros-fit)))
@@ -377,7 +377,7 @@ outlets-fit (o ∷ os) g = let a = g .0 in (a .cell, (a .want, (a .drawn, (a .wa
 
 lent-stored : (c : Call) → Given c → Each StoredOutlet (lentBy c)
 unfolding Each lentBy
-lent-stored (stepCall t) g = tt
+lent-stored (stepCall t F) g = tt
 lent-stored transportCall g = tt
 lent-stored (boundariesCall es) g = tt
 lent-stored greatestCall g = tt
@@ -405,7 +405,7 @@ words-fit start (e ∷ es) g l =
 
 sheet-fit : (c : Call) → Given c → Each Byte (sheetPart c)
 unfolding Each
-sheet-fit (stepCall t) g = tt
+sheet-fit (stepCall t F) g = tt
 sheet-fit transportCall g = tt
 sheet-fit (boundariesCall es) g = tt
 sheet-fit greatestCall g = tt
@@ -419,7 +419,7 @@ sheets-fit (e ∷ es) g = each-append Byte (sheetPart (e .call)) (sheetsOf es) (
 
 room-by-fits : (c : Call) → Given c → Word (roomBy c)
 unfolding roomBy
-room-by-fits (stepCall t) g = omega arith
+room-by-fits (stepCall t F) g = omega arith
 room-by-fits transportCall g = omega arith
 room-by-fits (boundariesCall es) g = omega arith
 room-by-fits greatestCall g = omega arith

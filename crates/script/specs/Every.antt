@@ -43,7 +43,7 @@ pub record StoredOutlet (o : Outlet) : Type 0 where
 
 -- free arguments as the calls can be given them; the list lent to an opening in between is one of 32 outlets at most
 abbrev pub Given : Call → Type 0
-Given (stepCall t) = Word t
+Given (stepCall t F) = Word t × Word F
 Given transportCall = Unit {0}
 Given (boundariesCall es) = (length es ≡ 2) × Each Stored es
 Given greatestCall = Unit {0}
@@ -56,7 +56,7 @@ EntryGiven e = (length (e .free .wants) ≡ outletsMost) × Each Word (e .free .
 
 -- the bytes of all sheets of a list
 abbrev pub sheetPart : Call → List ℕ
-sheetPart (stepCall t) = []
+sheetPart (stepCall t F) = []
 sheetPart transportCall = []
 sheetPart (boundariesCall es) = []
 sheetPart greatestCall = []

@@ -52,14 +52,14 @@ outletsFrom ws at = tabulate (getD ws at 0) (λ k. outletFrom ws (at + 1 + 5 * k
 -- by the first word of a call: 0 a step, 1 a transport, 2 a setting of boundaries, 3 a greatest-step call, 4 a write, any other an opening
 abbrev pub callOf : (word a b : ℕ) → List Boundary → (lent : List Outlet) → (sheets : List ℕ) (room : ℕ) → Call
 callOf w a b es os sheets room =
-    cond (eqb w 0) (stepCall a)
+    cond (eqb w 0) (stepCall a b)
     (cond (eqb w 1) transportCall
     (cond (eqb w 2) (boundariesCall es)
     (cond (eqb w 3) greatestCall
     (cond (eqb w 4) (writeCall (min a room))
     (openCall (part sheets a b) os)))))
 
--- the call in the words from `at` on; t, the room of a write, or the place of a sheet is in the two words behind the first, the pair of
+-- the call in the words from `at` on; t and F, the room of a write, or the place of a sheet is in the two words behind the first, the pair of
 -- boundaries in the ten after them, the list lent to an opening behind the 32 wants; there are `room` bytes of output
 unfoldable pub callAt : (words sheets : List ℕ) (room at : ℕ) → Call
 callAt ws sheets room at =

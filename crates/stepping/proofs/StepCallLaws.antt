@@ -25,6 +25,7 @@ use Rattle.flux.specs.Limits.{depthMost}
 use Rattle.flux.specs.Interface.{Side, mirrored}
 use Rattle.flux.specs.Ranges.{Mesh}
 use Rattle.flux.specs.Velocity.{velocity}
+use Rattle.friction.specs.Friction.{stricklerFits}
 use Rattle.cfl.specs.Cfl.{signalSpeed, speedAt, meetsCfl}
 use Rattle.reach.specs.Limits.{wall, openBoundary, fed, carriedMost, cellsMost, totalMost}
 use Rattle.reach.specs.Reach.{Reach, reachOf, cells, depthAt, dischargeAt, carriedAt, leftBoundary, rightBoundary, withTotals}
@@ -223,6 +224,10 @@ module _ (s : Reach) (k : Sound s) (t : ℕ) where
   unfolding depthsFit
   depths-are depth e = all-same _ _ (cells s) (λ i l. rw (e i l) (sym (below (newDepth s t i) depthMost)))
 
+  depth-fits : depthsFit s t ≡ true → (i : ℕ) → i < cells s → positive (newDepth s t i) ≤ depthMost
+  unfolding depthsFit
+  depth-fits deep i l = leb-true _ _ (sym (below (newDepth s t i) depthMost) ∙ all-at (λ i. leZ (newDepth s t i) (pos depthMost)) (cells s) i deep l)
+
   -- the column of what is wanted of each cell
   module _ (wanted : List ℕ) (e : wanted ≡ tabulate cellsMost (λ i. sum (wantsFrom os i))) where
     wanted-at : (i : ℕ) → i < cellsMost → getD wanted i 0 ≡ sum (wantsFrom os i)
@@ -231,7 +236,7 @@ module _ (s : Reach) (k : Sound s) (t : ℕ) where
     pub wanted-long : length wanted ≡ cellsMost
     wanted-long = ap length e ∙ length-tabulate cellsMost (λ i. sum (wantsFrom os i))
 
-    module _ (net : List ℤ) (given depth : List ℕ) (discharge : List ℤ) (w : Swept s t wanted net given depth discharge) where
+    module _ {F : ℕ} (net : List ℤ) (given depth : List ℕ) (discharge : List ℤ) (w : Swept s t F wanted net given depth discharge) where
       of-wants : (i : ℕ) → i < cells s → i < cellsMost
       of-wants i l = omega (arith, l, k .few)
 
@@ -241,8 +246,10 @@ module _ (s : Reach) (k : Sound s) (t : ℕ) where
       pub depth-of : (i : ℕ) → i < cells s → getD depth i 0 ≡ positive (newDepth s t i)
       depth-of i l = w .depths i l ∙ ap (λ (n : ℕ). positive (grantedDepth s t n i)) (wanted-at i (of-wants i l)) ∙ ap positive (sym (depth-is s t i))
 
-      pub discharge-of : (i : ℕ) → i < cells s → getD discharge i (pos 0) ≡ newDischarge s t i
-      discharge-of i l = w .discharges i l ∙ ap (λ (n : ℕ). grantedDischarge s t n i) (wanted-at i (of-wants i l)) ∙ sym (discharge-is s t i)
+      -- of a depth that stands ground 12
+      pub discharge-of : depthsFit s t ≡ true → (i : ℕ) → i < cells s → getD discharge i (pos 0) ≡ newDischarge s t F i
+      discharge-of deep i l =
+          w .discharges i l ∙ ap (λ (n : ℕ). grantedDischarge s t F n i) (wanted-at i (of-wants i l)) ∙ sym (discharge-is s t F i (depth-fits deep i l))
 
       -- what each cell gives is no more than what is wanted of it, past the last cell too
       pub grants : length given ≡ cellsMost → ((i : ℕ) → cells s ≤ i → getD given i 0 ≡ getD wanted i 0) → Granted os wanted given
@@ -268,7 +275,7 @@ module _ (s : Reach) (k : Sound s) (t : ℕ) where
           ∙ ap (λ (g : ℕ). getD (dealt g (wantsFrom os i)) n 0) (w .grants i j ∙ ap (λ (n : ℕ). granted s t n i) (wanted-at i (of-wants i j)))
           ∙ ap (λ (ds : List ℕ). getD ds n 0) (sym (draws-dealt s t i))
 
-  module _ (cfl : meetsCfl (placeSpeed s) (cells s + 1) (s .cellLength) t ≡ true) (net : List ℤ) (depth : List ℕ) (discharge : List ℤ) (got : List ℕ) (w : StepFound s t net depth discharge got) where
+  module _ (cfl : meetsCfl (placeSpeed s) (cells s + 1) (s .cellLength) t ≡ true) {F : ℕ} (net : List ℤ) (depth : List ℕ) (discharge : List ℤ) (got : List ℕ) (w : StepFound s t F net depth discharge got) where
     -- the transport test
     pub sums-are : sumsKept (cells s) (s .carried) net depth ≡ keepsSums s t
     unfolding sumsKept keepsSums summed
@@ -290,11 +297,11 @@ module _ (s : Reach) (k : Sound s) (t : ℕ) where
 
     -- ---- what is written is what the record after the step holds
 
-    pub depth-written : tabulate (length (s .depth)) (λ i. getD depth i 0) ≡ afterStep s t .depth
+    pub depth-written : tabulate (length (s .depth)) (λ i. getD depth i 0) ≡ afterStep s t F .depth
     unfolding afterStep
     depth-written = rw (k .depths) (tabulate-same (cells s) _ _ (w .depths))
 
-    pub discharge-written : tabulate (length (s .discharge)) (λ i. getD discharge i (pos 0)) ≡ afterStep s t .discharge
+    pub discharge-written : tabulate (length (s .discharge)) (λ i. getD discharge i (pos 0)) ≡ afterStep s t F .discharge
     unfolding afterStep
     discharge-written = rw (k .discharges) (tabulate-same (cells s) _ _ (w .discharges))
 
@@ -315,7 +322,7 @@ module _ (s : Reach) (k : Sound s) (t : ℕ) where
         go false = rw (carried-zero s k i (omega (arith, k .interfaces))) (omega arith)
 
     module _ (c : List ℤ) (e : c ≡ transportedFirst s t .carried) where
-      pub carried-written : tabulate (length c) (λ i. getD c i (pos 0) +ℤ getD net i (pos 0)) ≡ afterStep s t .carried
+      pub carried-written : tabulate (length c) (λ i. getD c i (pos 0) +ℤ getD net i (pos 0)) ≡ afterStep s t F .carried
       unfolding afterStep
       carried-written = rw (e, interfaces-kept) (tabulate-same (suc (cells s)) _ _ (λ i l. ap (λ (n : ℤ). carriedAt (transportedFirst s t) i +ℤ n) (w .nets i (omega arith))))
 
@@ -420,7 +427,7 @@ module _ (s : Reach) (k : Sound s) (t : ℕ) where
           unfolding stepHeld stepLedger
           held-after first last p q = rw (p, q, ledger-when, outlets-when, draws-when) refl
 
-          pub mass-when : cond v (movedMass (massColumns (s .mass) (s .base) (s .carried) (alone d) a c)) (s .mass) ≡ afterStep s t .mass
+          pub mass-when : cond v (movedMass (massColumns (s .mass) (s .base) (s .carried) (alone d) a c)) (s .mass) ≡ afterStep s t F .mass
           unfolding afterStep transportedFirst afterTransport
           mass-when = rw e (go (keepsSums s t) refl)
             where
@@ -428,7 +435,7 @@ module _ (s : Reach) (k : Sound s) (t : ℕ) where
               go true p = refl
               go false p = let z = x .transported (e ∙ ap not p) in moved-entering s k d ed (z .left-in) (z .right-in)
 
-      pub base-when : cond v (s .depth) (s .base) ≡ afterStep s t .base
+      pub base-when : cond v (s .depth) (s .base) ≡ afterStep s t F .base
       unfolding afterStep transportedFirst afterTransport
       base-when = rw e (go (keepsSums s t))
         where
@@ -451,42 +458,46 @@ pub refused-positive : (s : Reach) (n : ℕ) → firstRefusal (recordGrounds s (
 unfolding numbered
 refused-positive s n e = refused-number (recordGrounds s (s .held .boundaries)) n refl e
 
-module _ (s : Reach) (t : ℕ) where
-  pub stopped-before : (n : ℕ) → firstRefusal (recordGrounds s (s .held .boundaries)) ≡ Refused n → step s t ≡ record { refusal = n; reach = s }
+module _ (s : Reach) (t F : ℕ) where
+  pub stopped-before : (n : ℕ) → firstRefusal (recordGrounds s (s .held .boundaries)) ≡ Refused n → step s t F ≡ record { refusal = n; reach = s }
   unfolding step
-  stopped-before n e = ap (λ (k : Check). outcome k s (afterStep s t)) (no-further (recordGrounds s (s .held .boundaries)) _ n e)
+  stopped-before n e = ap (λ (k : Check). outcome k s (afterStep s t F)) (no-further (recordGrounds s (s .held .boundaries)) _ n e)
 
   module _ (e : firstRefusal (recordGrounds s (s .held .boundaries)) ≡ Pass) where
-    pub stopped-10 : timeFits t ≡ false → step s t ≡ record { refusal = 10; reach = s }
+    pub stopped-10 : timeFits t ≡ false → step s t F ≡ record { refusal = 10; reach = s }
     unfolding step
-    stopped-10 f = ap (λ (k : Check). outcome k s (afterStep s t)) (further (recordGrounds s (s .held .boundaries)) _ e ∙ stop-at _ _ f)
+    stopped-10 f = ap (λ (k : Check). outcome k s (afterStep s t F)) (further (recordGrounds s (s .held .boundaries)) _ e ∙ stop-at _ _ f)
 
-    module _ (time : timeFits t ≡ true) where
-      pub stopped-11 : meetsCfl (placeSpeed s) (cells s + 1) (s .cellLength) t ≡ false → step s t ≡ record { refusal = 11; reach = s }
+    pub stopped-17 : timeFits t ≡ true → stricklerFits F ≡ false → step s t F ≡ record { refusal = 17; reach = s }
+    unfolding step
+    stopped-17 time f = ap (λ (k : Check). outcome k s (afterStep s t F)) (further (recordGrounds s (s .held .boundaries)) _ e ∙ go-on _ _ time (stop-at _ _ f))
+
+    module _ (time : timeFits t ≡ true) (rough : stricklerFits F ≡ true) where
+      pub stopped-11 : meetsCfl (placeSpeed s) (cells s + 1) (s .cellLength) t ≡ false → step s t F ≡ record { refusal = 11; reach = s }
       unfolding step
-      stopped-11 f = ap (λ (k : Check). outcome k s (afterStep s t)) (further (recordGrounds s (s .held .boundaries)) _ e ∙ go-on _ _ time (stop-at _ _ f))
+      stopped-11 f = ap (λ (k : Check). outcome k s (afterStep s t F)) (further (recordGrounds s (s .held .boundaries)) _ e ∙ go-on _ _ time (go-on _ _ rough (stop-at _ _ f)))
 
       module _ (cfl : meetsCfl (placeSpeed s) (cells s + 1) (s .cellLength) t ≡ true) where
-        pub stopped-12 : depthsFit s t ≡ false → step s t ≡ record { refusal = 12; reach = s }
+        pub stopped-12 : depthsFit s t ≡ false → step s t F ≡ record { refusal = 12; reach = s }
         unfolding step
-        stopped-12 f = ap (λ (k : Check). outcome k s (afterStep s t)) (further (recordGrounds s (s .held .boundaries)) _ e ∙ go-on _ _ time (go-on _ _ cfl (stop-at _ _ f)))
+        stopped-12 f = ap (λ (k : Check). outcome k s (afterStep s t F)) (further (recordGrounds s (s .held .boundaries)) _ e ∙ go-on _ _ time (go-on _ _ rough (go-on _ _ cfl (stop-at _ _ f))))
 
         module _ (deep : depthsFit s t ≡ true) where
-          at-last : (b : Bool) → allTotalsFit (stepHeld s t) ≡ b → firstRefusal (stepGrounds s t) ≡ passOr 13 b
+          at-last : (b : Bool) → allTotalsFit (stepHeld s t) ≡ b → firstRefusal (stepGrounds s t F) ≡ passOr 13 b
           at-last b f =
-              further (recordGrounds s (s .held .boundaries)) _ e ∙ go-on _ _ time (go-on _ _ cfl (go-on _ _ deep (last-one 13 (allTotalsFit (stepHeld s t)) ∙ ap (passOr 13) f)))
+              further (recordGrounds s (s .held .boundaries)) _ e ∙ go-on _ _ time (go-on _ _ rough (go-on _ _ cfl (go-on _ _ deep (last-one 13 (allTotalsFit (stepHeld s t)) ∙ ap (passOr 13) f))))
 
-          pub stopped-13 : allTotalsFit (stepHeld s t) ≡ false → step s t ≡ record { refusal = 13; reach = s }
+          pub stopped-13 : allTotalsFit (stepHeld s t) ≡ false → step s t F ≡ record { refusal = 13; reach = s }
           unfolding step
-          stopped-13 f = ap (λ (k : Check). outcome k s (afterStep s t)) (at-last false f)
+          stopped-13 f = ap (λ (k : Check). outcome k s (afterStep s t F)) (at-last false f)
 
-          pub stepped-on : allTotalsFit (stepHeld s t) ≡ true → step s t ≡ record { refusal = 0; reach = afterStep s t }
+          pub stepped-on : allTotalsFit (stepHeld s t) ≡ true → step s t F ≡ record { refusal = 0; reach = afterStep s t F }
           unfolding step
-          stepped-on f = ap (λ (k : Check). outcome k s (afterStep s t)) (at-last true f)
+          stepped-on f = ap (λ (k : Check). outcome k s (afterStep s t F)) (at-last true f)
 
   -- a refused step leaves everything as it came
-  pub stayed : (n : ℕ) → 0 < n → step s t ≡ record { refusal = n; reach = s }
-      → StepCameTo s t (stoppedBy n (s .held)) (s .depth) (s .discharge) (s .mass) (s .base) (s .carried)
+  pub stayed : (n : ℕ) → 0 < n → step s t F ≡ record { refusal = n; reach = s }
+      → StepCameTo s t F (stoppedBy n (s .held)) (s .depth) (s .discharge) (s .mass) (s .base) (s .carried)
   unfolding transports
   stayed n p e =
       let z : eqb n 0 ≡ false = ne-eqb n 0 (λ q. absurd (omega (arith, p, q))) in
@@ -501,15 +512,15 @@ module _ (s : Reach) (t : ℕ) where
         carried-is = ap (λ (o : Outcome). o .reach .carried) (sym e);
       }
 
-  pub transports-is : step s t ≡ record { refusal = 0; reach = afterStep s t } → transports s t ≡ not (keepsSums s t)
+  pub transports-is : step s t F ≡ record { refusal = 0; reach = afterStep s t F } → transports s t F ≡ not (keepsSums s t)
   unfolding transports
   transports-is e = rw e refl
 
   -- an accepted one leaves the record after the step
-  pub came-out : {x : Held} {v : Bool} {h : List ℕ} {q : List ℤ} {m b : List ℕ} {c : List ℤ} → step s t ≡ record { refusal = 0; reach = afterStep s t }
+  pub came-out : {x : Held} {v : Bool} {h : List ℕ} {q : List ℤ} {m b : List ℕ} {c : List ℤ} → step s t F ≡ record { refusal = 0; reach = afterStep s t F }
       → x ≡ stepHeld s t → v ≡ not (keepsSums s t)
-      → h ≡ afterStep s t .depth → q ≡ afterStep s t .discharge → m ≡ afterStep s t .mass → b ≡ afterStep s t .base → c ≡ afterStep s t .carried
-      → StepCameTo s t (record { refusal = 0; held = x; transported = v }) h q m b c
+      → h ≡ afterStep s t F .depth → q ≡ afterStep s t F .discharge → m ≡ afterStep s t F .mass → b ≡ afterStep s t F .base → c ≡ afterStep s t F .carried
+      → StepCameTo s t F (record { refusal = 0; held = x; transported = v }) h q m b c
   unfolding afterStep
   came-out e x v h q m b c = record {
     refusal-is = ap (λ (o : Outcome). o .refusal) (sym e);
@@ -525,17 +536,17 @@ module _ (s : Reach) (t : ℕ) where
 -- ---- what a step left in the columns, with what it handed back, is the record of the definition
 
 -- it leaves the bed and X
-kept : (s : Reach) (t : ℕ) →
-    let r = step s t .reach in
+kept : (s : Reach) (t F : ℕ) →
+    let r = step s t F .reach in
     reachOf (s .bed) (r .depth) (r .discharge) (r .mass) (r .base) (r .carried) (s .cellLength) (r .held) ≡ r
 unfolding afterStep
-kept s t =
-    by-step s t
+kept s t F =
+    by-step s t F
     (λ o. let r = o .reach in
     reachOf (s .bed) (r .depth) (r .discharge) (r .mass) (r .base) (r .carried) (s .cellLength) (r .held) ≡ r)
     (λ n p. refl)
     (λ k c d l. refl)
 
-pub left-by-step : (s : Reach) (t : ℕ) {r : StepAnswer} {h : List ℕ} {q : List ℤ} {m b : List ℕ} {c : List ℤ} → StepCameTo s t r h q m b c
-    → reachOf (s .bed) h q m b c (s .cellLength) (r .held) ≡ step s t .reach
-left-by-step s t k = rw (k .depth-is, k .discharge-is, k .mass-is, k .base-is, k .carried-is, k .held-is) (kept s t)
+pub left-by-step : (s : Reach) (t F : ℕ) {r : StepAnswer} {h : List ℕ} {q : List ℤ} {m b : List ℕ} {c : List ℤ} → StepCameTo s t F r h q m b c
+    → reachOf (s .bed) h q m b c (s .cellLength) (r .held) ≡ step s t F .reach
+left-by-step s t F k = rw (k .depth-is, k .discharge-is, k .mass-is, k .base-is, k .carried-is, k .held-is) (kept s t F)

@@ -12,6 +12,7 @@ use Rattle.outlet.specs.Outlets.{outletsMost, wantMost, outletAt, eachOutlet}
 use Rattle.outlet.specs.declared.Outlet.{Outlet}
 use Rattle.outlet.specs.declared.Outlets.{Outlets}
 use Rattle.flux.specs.Limits.{depthMost}
+use Rattle.friction.specs.Friction.{stricklerFits}
 use Rattle.reach.specs.Limits.{totalMost}
 use Rattle.reach.specs.Reach.{Reach, cells}
 use Rattle.mass.specs.Transport.{MassColumns}
@@ -56,18 +57,19 @@ pub record Room (os : Outlets) (got : List ℕ) : Type 0 where
   pub drawn-most : (k : ℕ) → k < os .count → outletAt os k .drawn ≤ depthMost
   pub water-most : (k : ℕ) → k < os .count → outletAt os k .water ≤ totalMost
 
--- what was found of a step of t on the record s: N, depth and discharge of each cell, what each outlet has
-pub record StepFound (s : Reach) (t : ℕ) (net : List ℤ) (depth : List ℕ) (discharge : List ℤ) (got : List ℕ) : Type 0 where
+-- what was found of a step of t, with Strickler's coefficient F, on the record s: N, depth and discharge of each cell, what each outlet has
+pub record StepFound (s : Reach) (t F : ℕ) (net : List ℤ) (depth : List ℕ) (discharge : List ℤ) (got : List ℕ) : Type 0 where
   pub net-long : cells s < length net
   pub depth-long : cells s ≤ length depth
   pub discharge-long : cells s ≤ length discharge
   pub nets : (i : ℕ) → i ≤ cells s → getD net i (pos 0) ≡ netAt s t i
   pub depths : (i : ℕ) → i < cells s → getD depth i 0 ≡ positive (newDepth s t i)
-  pub discharges : (i : ℕ) → i < cells s → getD discharge i (pos 0) ≡ newDischarge s t i
+  pub discharges : (i : ℕ) → i < cells s → getD discharge i (pos 0) ≡ newDischarge s t F i
   pub gots : (k : ℕ) → k < s .held .outlets .count → getD got k 0 ≡ drawOf s t k
 
--- and that it stands grounds 10 to 12
-pub record StepPasses (s : Reach) (t : ℕ) : Type 0 where
+-- and that it stands grounds 10, 17, 11 and 12
+pub record StepPasses (s : Reach) (t F : ℕ) : Type 0 where
   pub time : timeFits t ≡ true
+  pub strickler : stricklerFits F ≡ true
   pub cfl : meetsCfl (placeSpeed s) (cells s + 1) (s .cellLength) t ≡ true
   pub deep : depthsFit s t ≡ true

@@ -13,13 +13,13 @@ use Rattle.update.specs.Step.{step, transports}
 abbrev pub stoppedBy : ℕ → Held → StepAnswer
 stoppedBy n k = record { refusal = n; held = k; transported = false }
 
--- a step of t came out as `step` says: every field of its answer, and every column that it may write
-pub record StepCameTo (s : Reach) (t : ℕ) (r : StepAnswer) (depth : List ℕ) (discharge : List ℤ) (mass base : List ℕ) (carried : List ℤ) : Type 0 where
-  pub refusal-is : r .refusal ≡ step s t .refusal
-  pub held-is : r .held ≡ step s t .reach .held
-  pub transported-is : r .transported ≡ transports s t
-  pub depth-is : depth ≡ step s t .reach .depth
-  pub discharge-is : discharge ≡ step s t .reach .discharge
-  pub mass-is : mass ≡ step s t .reach .mass
-  pub base-is : base ≡ step s t .reach .base
-  pub carried-is : carried ≡ step s t .reach .carried
+-- a step of t with Strickler's coefficient F came out as `step` says: every field of its answer, and every column that it may write
+pub record StepCameTo (s : Reach) (t F : ℕ) (r : StepAnswer) (depth : List ℕ) (discharge : List ℤ) (mass base : List ℕ) (carried : List ℤ) : Type 0 where
+  pub refusal-is : r .refusal ≡ step s t F .refusal
+  pub held-is : r .held ≡ step s t F .reach .held
+  pub transported-is : r .transported ≡ transports s t F
+  pub depth-is : depth ≡ step s t F .reach .depth
+  pub discharge-is : discharge ≡ step s t F .reach .discharge
+  pub mass-is : mass ≡ step s t F .reach .mass
+  pub base-is : base ≡ step s t F .reach .base
+  pub carried-is : carried ≡ step s t F .reach .carried

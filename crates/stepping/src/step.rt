@@ -1,4 +1,4 @@
-// A water step (document 01, 'A water step'): grounds 4 to 13 in checking order, all of them before the first write.
+// A water step (document 01, 'A water step'): grounds 4 to 13 and 17 in checking order, all of them before the first write.
 ghost use mathlib.Core.Path.{_≡_};
 ghost use mathlib.Core.Bool.{true, cond};
 ghost use Prim.Native.Nat.{ℕ, _≤_, _<_};
@@ -7,6 +7,7 @@ ghost use lib.IntN.{pos, _+ℤ_, natAbs};
 ghost use lib.ListN.{length, getD};
 ghost use Rattle.numbers.specs.Index.{allBelow, tabulate};
 ghost use Rattle.flux.specs.Limits.{depthMost};
+ghost use Rattle.friction.specs.Friction.{stricklerFits};
 ghost use Rattle.reach.specs.Reach.{reachOf, came, withTotals};
 ghost use Rattle.reach.specs.Parts.{drawnFrom};
 ghost use Rattle.reach.specs.Limits.{cellsMost};
@@ -29,6 +30,7 @@ use super::transporting::boundary_mass_when;
 use super::transporting::keeps_sums;
 use super::transporting::move_outlets_when;
 use super::transporting::transport_when;
+use friction::strickler_fits;
 use numbers::columns::add_column;
 use numbers::columns::copy_first;
 use numbers::columns::copy_first_signed;
@@ -77,6 +79,16 @@ fn check_time(t: u64) -> Check
     }
     if 1_000 < t {
         return Check::Refused(10);
+    }
+    Check::Pass
+}
+
+// Ground 17, after 10
+fn check_strickler(f: u64) -> Check
+    ensures { λ r. ⌜ r ≡ passOr 17 (stricklerFits f) ⌝ }
+{
+    if !strickler_fits(f) {
+        return Check::Refused(17);
     }
     Check::Pass
 }
@@ -172,6 +184,7 @@ fn complete(
     x: u64,
     held: Held,
     t: u64,
+    f: u64,
     drawn: &[u64],
     net: &[i64],
     new_depth: &[u64],
@@ -179,10 +192,10 @@ fn complete(
     got: [u64; 32],
 ) -> StepAnswer
     requires { ⌜ firstRefusal (recordGrounds (reachOf (now bed) (now depth) (now discharge) (now mass) (now base) (now carried) x held) (held .boundaries)) ≡ Pass ⌝ }
-    requires { ⌜ StepPasses (reachOf (now bed) (now depth) (now discharge) (now mass) (now base) (now carried) x held) t ⌝ }
-    requires { ⌜ StepFound (reachOf (now bed) (now depth) (now discharge) (now mass) (now base) (now carried) x held) t (now net) (now «new_depth») (now «new_discharge») got ⌝ }
+    requires { ⌜ StepPasses (reachOf (now bed) (now depth) (now discharge) (now mass) (now base) (now carried) x held) t f ⌝ }
+    requires { ⌜ StepFound (reachOf (now bed) (now depth) (now discharge) (now mass) (now base) (now carried) x held) t f (now net) (now «new_depth») (now «new_discharge») got ⌝ }
     requires { ⌜ now drawn ≡ tabulate cellsMost (cutDrawn (held .outlets)) ⌝ }
-    ensures { λ r. ⌜ StepCameTo (came bed depth discharge mass base carried x held) t r (now (depth .exit)) (now (discharge .exit)) (now (mass .exit)) (now (base .exit)) (now (carried .exit)) ⌝ }
+    ensures { λ r. ⌜ StepCameTo (came bed depth discharge mass base carried x held) t f r (now (depth .exit)) (now (discharge .exit)) (now (mass .exit)) (now (base .exit)) (now (carried .exit)) ⌝ }
 {
     let n = bed.len();
     let transports = !keeps_sums(n, carried, net, new_depth);
@@ -220,7 +233,7 @@ fn complete(
     }
 }
 
-// Grounds 11 and 12, and the step itself, on a record and a time that stood those before. `drawn` is what the outlets of each cell have drawn together.
+// Grounds 11 and 12, and the step itself, on a record, a time and a coefficient that stood those before. `drawn` is what the outlets of each cell have drawn together.
 fn advance(
     bed: &[i64],
     depth: &mut [u64],
@@ -231,12 +244,13 @@ fn advance(
     x: u64,
     held: Held,
     t: u64,
+    f: u64,
     drawn: &[u64],
 ) -> StepAnswer
     requires { ⌜ firstRefusal (recordGrounds (reachOf (now bed) (now depth) (now discharge) (now mass) (now base) (now carried) x held) (held .boundaries)) ≡ Pass ⌝ }
-    requires { ⌜ timeFits t ≡ true ⌝ }
+    requires { ⌜ (timeFits t ≡ true) × (stricklerFits f ≡ true) ⌝ }
     requires { ⌜ now drawn ≡ tabulate cellsMost (cutDrawn (held .outlets)) ⌝ }
-    ensures { λ r. ⌜ StepCameTo (came bed depth discharge mass base carried x held) t r (now (depth .exit)) (now (discharge .exit)) (now (mass .exit)) (now (base .exit)) (now (carried .exit)) ⌝ }
+    ensures { λ r. ⌜ StepCameTo (came bed depth discharge mass base carried x held) t f r (now (depth .exit)) (now (discharge .exit)) (now (mass .exit)) (now (base .exit)) (now (carried .exit)) ⌝ }
 {
     let boundaries = held.boundaries;
     let n = bed.len();
@@ -247,6 +261,7 @@ fn advance(
     wants_by_cell(held, &mut given);
     let Check::Pass = sweep(
         t,
+        f,
         x,
         bed,
         depth,
@@ -273,6 +288,7 @@ fn advance(
         x,
         held,
         t,
+        f,
         drawn,
         &net,
         &new_depth,
@@ -281,7 +297,7 @@ fn advance(
     )
 }
 
-// One water step of t ms.
+// One water step of t ms with Strickler's coefficient f, 0 for none.
 pub fn step(
     bed: &[i64],
     depth: &mut [u64],
@@ -292,8 +308,9 @@ pub fn step(
     x: u64,
     held: Held,
     t: u64,
+    f: u64,
 ) -> StepAnswer
-    ensures { λ r. ⌜ StepCameTo (came bed depth discharge mass base carried x held) t r (now (depth .exit)) (now (discharge .exit)) (now (mass .exit)) (now (base .exit)) (now (carried .exit)) ⌝ }
+    ensures { λ r. ⌜ StepCameTo (came bed depth discharge mass base carried x held) t f r (now (depth .exit)) (now (discharge .exit)) (now (mass .exit)) (now (base .exit)) (now (carried .exit)) ⌝ }
 {
     let boundaries = held.boundaries;
     let mut drawn = [0u64; CELLS_MOST];
@@ -315,6 +332,9 @@ pub fn step(
     let Check::Pass = check_time(t) else {
         return stopped(10, held);
     };
+    let Check::Pass = check_strickler(f) else {
+        return stopped(17, held);
+    };
     advance(
         bed,
         depth,
@@ -325,6 +345,7 @@ pub fn step(
         x,
         held,
         t,
+        f,
         &drawn,
     )
 }

@@ -33,9 +33,9 @@ use Rattle.writing.specs.Writing.{WriteCameTo}
 use Rattle.writing.specs.declared.write.WriteAnswer.{WriteAnswer}
 use Rattle.tally.specs.Call.{Free, next, stepCall, transportCall, boundariesCall, greatestCall, writeCall, openCall, lending, withWants, afterOpening, goesOn}
 
-pub step-next : (s : Reach) (f : Free) (t : ℕ) {r : StepAnswer} {h : List ℕ} {q : List ℤ} {m b : List ℕ} {c : List ℤ} → StepCameTo (withWants (f .wants) s) t r h q m b c
-    → reachOf (s .bed) h q m b c (s .cellLength) (r .held) ≡ next s f (stepCall t)
-step-next s f t k = left-by-step (withWants (f .wants) s) t k
+pub step-next : (s : Reach) (f : Free) (t F : ℕ) {r : StepAnswer} {h : List ℕ} {q : List ℤ} {m b : List ℕ} {c : List ℤ} → StepCameTo (withWants (f .wants) s) t F r h q m b c
+    → reachOf (s .bed) h q m b c (s .cellLength) (r .held) ≡ next s f (stepCall t F)
+step-next s f t F k = left-by-step (withWants (f .wants) s) t F k
 
 pub setting-next : (s : Reach) (f : Free) (es : List Boundary) {r : TransportAnswer} {m b : List ℕ} {c : List ℤ} → CameTo (setBoundaries (withWants (f .wants) s) es) r m b c
     → reachOf (s .bed) (s .depth) (s .discharge) m b c (s .cellLength) (r .held) ≡ next s f (boundariesCall es)

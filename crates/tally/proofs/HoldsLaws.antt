@@ -70,15 +70,15 @@ run-then T [] e = refl
 run-then T (d ∷ es) e = run-then (count T (d .free) (d .call)) es e
 
 -- what is said of each accepted step is said of it, the latest of them: of the record with the wants of its call
-latest : (P : AcceptedStep → Type 0) (T : Tally) (es : List Entry) (f : Free) (t : ℕ) → Each P (run T (es ++ (record { free = f; call = stepCall t } ∷ [])) .steps)
-    → step (withWants (f .wants) (run T es .own)) t .refusal ≡ 0 → P (record { before = withWants (f .wants) (run T es .own); time = t })
+latest : (P : AcceptedStep → Type 0) (T : Tally) (es : List Entry) (f : Free) (t F : ℕ) → Each P (run T (es ++ (record { free = f; call = stepCall t F } ∷ [])) .steps)
+    → step (withWants (f .wants) (run T es .own)) t F .refusal ≡ 0 → P (record { before = withWants (f .wants) (run T es .own); time = t })
 unfolding count ifAccepted takeWants countStep Each
-latest P T es f t h z =
-    let d : Each P (count (run T es) f (stepCall t) .steps) = subst (λ (U : Tally). Each P (U .steps)) (run-then T es _) h in
+latest P T es f t F h z =
+    let d : Each P (count (run T es) f (stepCall t F) .steps) = subst (λ (U : Tally). Each P (U .steps)) (run-then T es _) h in
     (rw z at d) .0
 
-module _ (T : Tally) (es : List Entry) (f : Free) (t : ℕ) {s' : Reach} (h : Holds (run T (es ++ (record { free = f; call = stepCall t } ∷ []))) s')
-    (z : step (withWants (f .wants) (run T es .own)) t .refusal ≡ 0) where
+module _ (T : Tally) (es : List Entry) (f : Free) (t F : ℕ) {s' : Reach} (h : Holds (run T (es ++ (record { free = f; call = stepCall t F } ∷ []))) s')
+    (z : step (withWants (f .wants) (run T es .own)) t F .refusal ≡ 0) where
   -- the record that it was given
   abbrev before : Reach
   before = withWants (f .wants) (run T es .own)
@@ -86,14 +86,14 @@ module _ (T : Tally) (es : List Entry) (f : Free) (t : ℕ) {s' : Reach} (h : Ho
   -- its formula for h' gives no less than 0 in any cell
   pub latest-depths : (i : ℕ) → i < cells before → leZ (pos 0) (newDepth before t i) ≡ true
   unfolding DepthsFromZero
-  latest-depths = latest DepthsFromZero T es f t (h .depths) z
+  latest-depths = latest DepthsFromZero T es f t F (h .depths) z
 
   -- nor is what a cell can give less
   pub latest-available : (i : ℕ) → i < cells before → leZ (pos 0) (available before t i) ≡ true
   unfolding AvailableFromZero
-  latest-available = latest AvailableFromZero T es f t (h .available) z
+  latest-available = latest AvailableFromZero T es f t F (h .available) z
 
   -- no outlet has more than it wants at the call
   pub latest-wanted : (k : ℕ) → k < before .held .outlets .count → drawOf before t k ≤ outletAt (before .held .outlets) k .want
   unfolding WithinWants
-  latest-wanted = latest WithinWants T es f t (h .wanted) z
+  latest-wanted = latest WithinWants T es f t F (h .wanted) z

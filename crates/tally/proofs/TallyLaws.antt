@@ -188,13 +188,13 @@ module _ (T : Tally) (K : Kept T) where
       omega arith
 
   -- the sums go on as the ledger does, and the tally's outlets as the record's
-  sums-step : Sound (T .own) → (t : ℕ) → afterStep (T .own) t .held .ledger ≡ addStep (T .own) t (T .sums)
+  sums-step : Sound (T .own) → (t F : ℕ) → afterStep (T .own) t F .held .ledger ≡ addStep (T .own) t (T .sums)
   unfolding afterStep stepHeld
-  sums-step k t = sym (step-added (T .own) k t) ∙ ap (addStep (T .own) t) (K .holds .ledger)
+  sums-step k t F = sym (step-added (T .own) k t) ∙ ap (addStep (T .own) t) (K .holds .ledger)
 
-  outlets-step : (t : ℕ) → afterStep (T .own) t .held .outlets ≡ addStepOutlets (T .own) t (T .outlets)
+  outlets-step : (t F : ℕ) → afterStep (T .own) t F .held .outlets ≡ addStepOutlets (T .own) t (T .outlets)
   unfolding afterStep stepHeld
-  outlets-step t = sym (outlets-added (T .own) t) ∙ ap (addStepOutlets (T .own) t) (K .holds .outlets)
+  outlets-step t F = sym (outlets-added (T .own) t) ∙ ap (addStepOutlets (T .own) t) (K .holds .outlets)
 
   sums-mass : Sound (T .own) → afterTransport (T .own) .held .ledger ≡ addMass (T .own) (T .sums)
   unfolding afterTransport transportHeld
@@ -234,22 +234,22 @@ module _ (T : Tally) (K : Kept T) where
     few = omega (arith, wanting-few (T .outlets) (K .few) ws, K .few);
   }
 
-  step-kept : (t : ℕ) → Sound (T .own) → meetsCfl (placeSpeed (T .own)) (cells (T .own) + 1) (T .own .cellLength) t ≡ true → Kept (countStep T t)
+  step-kept : (t F : ℕ) → Sound (T .own) → meetsCfl (placeSpeed (T .own)) (cells (T .own) + 1) (T .own .cellLength) t ≡ true → Kept (countStep T t F)
   unfolding countStep Each DepthsFromZero WithinWants AvailableFromZero waterHeld massHeld afterStep stepHeld
-  step-kept t k c =
-      let e = sums-step k t in
-      let d = outlets-step t in record {
+  step-kept t F k c =
+      let e = sums-step k t F in
+      let d = outlets-step t F in record {
         holds = record {
           own = refl;
           ledger = refl;
           outlets = refl;
-          water = water-on (afterStep (T .own) t) _ _ e d (step-water-balanced (T .own) k t c);
-          mass = mass-on (afterStep (T .own) t) _ _ e d (step-mass-balanced (T .own) k t);
+          water = water-on (afterStep (T .own) t F) _ _ e d (step-water-balanced (T .own) k t c F);
+          mass = mass-on (afterStep (T .own) t F) _ _ e d (step-mass-balanced (T .own) k t F);
           depths = (λ i l. ap (leZ (pos 0)) (depth-not-negative (T .own) k t c i l) ∙ from-zero (positive (newDepth (T .own) t i)), K .holds .depths);
           wanted = (draw-most (T .own) t, K .holds .wanted);
           available = (λ i l. ap (leZ (pos 0)) (available-not-negative (T .own) k t c i l) ∙ from-zero (positive (available (T .own) t i)), K .holds .available);
           bounds = λ lo hi o h.
-              let w = step-within (T .own) k t lo hi (K .holds .bounds lo hi o h) (K .boundaries-within lo hi h) in
+              let w = step-within (T .own) k t F lo hi (K .holds .bounds lo hi o h) (K .boundaries-within lo hi h) in
               record { above = w .above; below = w .below };
         };
         boundaries-within = K .boundaries-within;
@@ -327,12 +327,12 @@ module _ (T : Tally) (K : Kept T) where
       go true = k
       go false = K
 
-  step-counted : (f : Free) (t : ℕ) → Kept (after (step (T .own) t .refusal) f (stepCall t))
+  step-counted : (f : Free) (t F : ℕ) → Kept (after (step (T .own) t F .refusal) f (stepCall t F))
   unfolding ifAccepted
-  step-counted f t =
-      by-step (T .own) t (λ o. Kept (after (o .refusal) f (stepCall t)))
-      (λ n p. subst Kept (sym (stays n f (stepCall t) p)) K)
-      (λ k c d l. step-kept t k c)
+  step-counted f t F =
+      by-step (T .own) t F (λ o. Kept (after (o .refusal) f (stepCall t F)))
+      (λ n p. subst Kept (sym (stays n f (stepCall t F) p)) K)
+      (λ k c d l. step-kept t F k c)
 
   transport-counted : (f : Free) → Kept (after (transport (T .own) .refusal) f transportCall)
   unfolding ifAccepted
@@ -350,12 +350,12 @@ module _ (T : Tally) (K : Kept T) where
 
   -- ---- the tally's own record moves as the program's does
 
-  step-moved : (f : Free) (t : ℕ) → after (step (T .own) t .refusal) f (stepCall t) .own ≡ step (T .own) t .reach
+  step-moved : (f : Free) (t F : ℕ) → after (step (T .own) t F .refusal) f (stepCall t F) .own ≡ step (T .own) t F .reach
   unfolding ifAccepted countStep afterStep stepHeld
-  step-moved f t =
-      by-step (T .own) t (λ o. after (o .refusal) f (stepCall t) .own ≡ o .reach)
-      (λ n p. ap (λ (x : Tally). x .own) (stays n f (stepCall t) p))
-      (λ k c d l. ap₂ (withSums (afterStep (T .own) t)) (sym (sums-step k t)) (sym (outlets-step t)))
+  step-moved f t F =
+      by-step (T .own) t F (λ o. after (o .refusal) f (stepCall t F) .own ≡ o .reach)
+      (λ n p. ap (λ (x : Tally). x .own) (stays n f (stepCall t F) p))
+      (λ k c d l. ap₂ (withSums (afterStep (T .own) t F)) (sym (sums-step k t F)) (sym (outlets-step t F)))
 
   transport-moved : (f : Free) → after (transport (T .own) .refusal) f transportCall .own ≡ transport (T .own) .reach
   unfolding ifAccepted countTransport afterTransport transportHeld
@@ -407,7 +407,7 @@ module _ (T : Tally) (K : Kept T) where
 
   pub count-kept : (f : Free) (c : Call) → Kept (count T f c)
   unfolding count takeWants
-  count-kept f (stepCall t) = step-counted (takeWants (f .wants) T) (wants-kept T K (f .wants)) f t
+  count-kept f (stepCall t F) = step-counted (takeWants (f .wants) T) (wants-kept T K (f .wants)) f t F
   count-kept f transportCall = transport-counted (takeWants (f .wants) T) (wants-kept T K (f .wants)) f
   count-kept f (boundariesCall es) = setting-counted (takeWants (f .wants) T) (wants-kept T K (f .wants)) f es
   count-kept f greatestCall = let k = wants-kept T K (f .wants) in either (takeWants (f .wants) T) k _ f greatestCall k
@@ -416,7 +416,7 @@ module _ (T : Tally) (K : Kept T) where
 
   pub count-next : (f : Free) (c : Call) → count T f c .own ≡ next (T .own) f c
   unfolding count takeWants
-  count-next f (stepCall t) = step-moved (takeWants (f .wants) T) (wants-kept T K (f .wants)) f t
+  count-next f (stepCall t F) = step-moved (takeWants (f .wants) T) (wants-kept T K (f .wants)) f t F
   count-next f transportCall = transport-moved (takeWants (f .wants) T) (wants-kept T K (f .wants)) f
   count-next f (boundariesCall es) = setting-moved (takeWants (f .wants) T) (wants-kept T K (f .wants)) f es
   count-next f greatestCall = unmoved (takeWants (f .wants) T) (wants-kept T K (f .wants)) _

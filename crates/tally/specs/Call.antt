@@ -21,8 +21,8 @@ use Rattle.sheet.specs.declared.opening.OpenAnswer.{OpenAnswer}
 use Rattle.writing.specs.Writing.{writeRefusal}
 
 pub data Call : Type 0 where
-  -- a step of t ms
-  stepCall : (t : ℕ) → Call
+  -- a step of t ms with Strickler's coefficient F (document 02, point 4)
+  stepCall : (t F : ℕ) → Call
   transportCall : Call
   boundariesCall : (given : List Boundary) → Call
   greatestCall : Call
@@ -65,7 +65,7 @@ withWants ws s = lending (wanting ws (s .held .outlets)) s
 
 -- the number of the first ground that stops the call, 0 for none
 abbrev pub refusalOf : Reach → Free → Call → ℕ
-refusalOf s f (stepCall t) = step (withWants (f .wants) s) t .refusal
+refusalOf s f (stepCall t F) = step (withWants (f .wants) s) t F .refusal
 refusalOf s f transportCall = transport (withWants (f .wants) s) .refusal
 refusalOf s f (boundariesCall es) = setBoundaries (withWants (f .wants) s) es .refusal
 refusalOf s f greatestCall = greatest (withWants (f .wants) s) .refusal
@@ -79,7 +79,7 @@ afterOpening o s = cond (eqb (o .refusal) 0) (o .reach) s
 
 -- the record that the call leaves
 abbrev pub next : Reach → Free → Call → Reach
-next s f (stepCall t) = step (withWants (f .wants) s) t .reach
+next s f (stepCall t F) = step (withWants (f .wants) s) t F .reach
 next s f transportCall = transport (withWants (f .wants) s) .reach
 next s f (boundariesCall es) = setBoundaries (withWants (f .wants) s) es .reach
 next s f greatestCall = withWants (f .wants) s

@@ -150,12 +150,12 @@ takeWants ws T = record {
 }
 
 -- an accepted call moves its record by the rules, and adds to its sums and to its outlets
-unfoldable pub countStep : Tally → (t : ℕ) → Tally
-countStep T t =
+unfoldable pub countStep : Tally → (t F : ℕ) → Tally
+countStep T t F =
     let k = addStep (T .own) t (T .sums) in
     let os = addStepOutlets (T .own) t (T .outlets) in record {
       initial = T .initial;
-      own = withSums (afterStep (T .own) t) k os;
+      own = withSums (afterStep (T .own) t F) k os;
       sums = k;
       outlets = os;
       held = T .held;
@@ -188,7 +188,7 @@ countSetting T es =
 
 -- the tally that a call meets: an opening has no wants
 abbrev pub given : Tally → Free → Call → Tally
-given T f (stepCall t) = takeWants (f .wants) T
+given T f (stepCall t F) = takeWants (f .wants) T
 given T f transportCall = takeWants (f .wants) T
 given T f (boundariesCall es) = takeWants (f .wants) T
 given T f greatestCall = takeWants (f .wants) T
@@ -198,7 +198,7 @@ given T f (openCall sheet os) = T
 -- what an accepted call makes of the tally that it met; a greatest-step call and a write change nothing, an accepted opening starts another list,
 -- with the list lent to it
 abbrev pub accepted : Tally → Free → Call → Tally
-accepted T f (stepCall t) = countStep T t
+accepted T f (stepCall t F) = countStep T t F
 accepted T f transportCall = countTransport T
 accepted T f (boundariesCall es) = countSetting T es
 accepted T f greatestCall = T

@@ -67,7 +67,7 @@ opened {s} {s'} {sheet} {outlets} f k = k .left ∙ open-next s f sheet outlets 
 
 -- each contract gives the record that `next` says, of the record that was given; and that was s with the wants
 pub link : (s : Reach) (f : Free) (c : Call) (s' : Reach) → Link s f c s' → s' ≡ next s f c
-link s f (stepCall t) s' k = k .left ∙ left-by-step (of (k .l) s) t (k .ensured .0) ∙ ap (λ (x : Reach). step x t .reach) (sym (k .lends))
+link s f (stepCall t F) s' k = k .left ∙ left-by-step (of (k .l) s) t F (k .ensured .0) ∙ ap (λ (x : Reach). step x t F .reach) (sym (k .lends))
 link s f transportCall s' k = k .left ∙ left-by-transport (of (k .l) s) (k .ensured .0) ∙ ap (λ (x : Reach). transport x .reach) (sym (k .lends))
 link s f (boundariesCall es) s' k = k .left ∙ left-by-setting (of (k .l) s) es (k .ensured .0) ∙ ap (λ (x : Reach). setBoundaries x es .reach) (sym (k .lends))
 link s f greatestCall s' k =
@@ -100,7 +100,7 @@ demand-3 sheet outlets es before opened after first e rest =
 -- ---- the program's answer is the tally's own finding
 
 pub answer-is : (s : Reach) (f : Free) (c : Call) (s' : Reach) → (k : Link s f c s') → answer s f c s' k ≡ refusalOf s f c
-answer-is s f (stepCall t) s' k = k .ensured .0 .refusal-is ∙ ap (λ (x : Reach). step x t .refusal) (sym (k .lends))
+answer-is s f (stepCall t F) s' k = k .ensured .0 .refusal-is ∙ ap (λ (x : Reach). step x t F .refusal) (sym (k .lends))
 answer-is s f transportCall s' k = k .ensured .0 .refusal-is ∙ ap (λ (x : Reach). transport x .refusal) (sym (k .lends))
 answer-is s f (boundariesCall new) s' k = k .ensured .0 .refusal-is ∙ ap (λ (x : Reach). setBoundaries x new .refusal) (sym (k .lends))
 answer-is s f greatestCall s' k = ap (λ (r : GreatestAnswer). r .refusal) (k .ensured) ∙ ap (λ (x : Reach). greatest x .refusal) (sym (k .lends))
@@ -128,7 +128,7 @@ unfolding wanting
 wanting-as-loaded n ws os a = each-as-loaded n _ os a
 
 next-as-loaded : (s : Reach) (f : Free) (c : Call) (n : ℕ) → AsLoaded n (withWants (f .wants) s .held .outlets) → AsLoaded n (s .held .outlets) → OfList (next s f c)
-next-as-loaded s f (stepCall t) n w a = record { count = n; loads = step-as-loaded n (withWants (f .wants) s) t w }
+next-as-loaded s f (stepCall t F) n w a = record { count = n; loads = step-as-loaded n (withWants (f .wants) s) t w F }
 next-as-loaded s f transportCall n w a = record { count = n; loads = transport-as-loaded n (withWants (f .wants) s) w }
 next-as-loaded s f (boundariesCall new) n w a = record { count = n; loads = setting-as-loaded n (withWants (f .wants) s) w new }
 next-as-loaded s f greatestCall n w a = record { count = n; loads = w }
@@ -213,15 +213,15 @@ module _ (s : Reach) (f : Free) (os : List Outlet) (e : loaded os ≡ wanting (f
   came : (o : Outcome) → CameTo o (record { refusal = o .refusal; held = o .reach .held }) (o .reach .mass) (o .reach .base) (o .reach .carried)
   came o = record { refusal-is = refl; held-is = refl; mass-is = refl; base-is = refl; carried-is = refl }
 
-  step-made : (t : ℕ) → StepLink s f t (next s f (stepCall t))
-  step-made t =
-      let o = step g t in
-      let a : StepAnswer = record { refusal = o .refusal; held = o .reach .held; transported = transports g t } in
-      let came-to : StepCameTo g t a (o .reach .depth) (o .reach .discharge) (o .reach .mass) (o .reach .base) (o .reach .carried)
+  step-made : (t F : ℕ) → StepLink s f t F (next s f (stepCall t F))
+  step-made t F =
+      let o = step g t F in
+      let a : StepAnswer = record { refusal = o .refusal; held = o .reach .held; transported = transports g t F } in
+      let came-to : StepCameTo g t F a (o .reach .depth) (o .reach .discharge) (o .reach .mass) (o .reach .base) (o .reach .carried)
       = record { refusal-is = refl; held-is = refl; transported-is = refl; depth-is = refl; discharge-is = refl; mass-is = refl; base-is = refl; carried-is = refl } in
       let room : List Outlet = o .reach .held .outlets .list in
       let k =
-      step-returns (s .bed) (s .depth) (s .discharge) (s .mass) (s .base) (s .carried) (s .cellLength) (s .held .boundaries) (s .held .ledger) os (over room os) room (loaded os) (g .held) t
+      step-returns (s .bed) (s .depth) (s .discharge) (s .mass) (s .base) (s .carried) (s .cellLength) (s .held .boundaries) (s .held .ledger) os (over room os) room (loaded os) (g .held) t F
       (o .reach .depth) (o .reach .discharge) (o .reach .mass) (o .reach .base) (o .reach .carried) a (steppedOf a) refl refl came-to refl refl refl in
       record {
         κs = seven;
@@ -230,7 +230,7 @@ module _ (s : Reach) (f : Free) (os : List Outlet) (e : loaded os ≡ wanting (f
         r = steppedOf a;
         e = record { depth = o .reach .depth; discharge = o .reach .discharge; mass = o .reach .mass; base = o .reach .base; carried = o .reach .carried; outlets = over room os };
         ensured = k;
-        left = ap (λ (x : Reach). step x t .reach) lent-is ∙ sym (left-by-step g t (k .0));
+        left = ap (λ (x : Reach). step x t F .reach) lent-is ∙ sym (left-by-step g t F (k .0));
       }
 
   transport-made : TransportLink s f (next s f transportCall)
@@ -295,7 +295,7 @@ module _ (s : Reach) (f : Free) (os : List Outlet) (e : loaded os ≡ wanting (f
       }
 
 pub made : (s : Reach) (f : Free) (c : Call) → OfList s → Link s f c (next s f c)
-made s f (stepCall t) k = step-made s f (listOf s k (f .wants)) (listed s k (f .wants)) t
+made s f (stepCall t F) k = step-made s f (listOf s k (f .wants)) (listed s k (f .wants)) t F
 made s f transportCall k = transport-made s f (listOf s k (f .wants)) (listed s k (f .wants))
 made s f (boundariesCall new) k = setting-made s f (listOf s k (f .wants)) (listed s k (f .wants)) new
 made s f greatestCall k = greatest-made s f (listOf s k (f .wants)) (listed s k (f .wants))
@@ -335,7 +335,7 @@ of-every-list sheet s outlets es e z =
 
 pub every-call : EveryCall
 every-call = record {
-  step = λ s f t κs l r e lends ensured. record { κs = κs; l = l; lends = lends; r = r; e = e; ensured = ensured; left = refl };
+  step = λ s f t F κs l r e lends ensured. record { κs = κs; l = l; lends = lends; r = r; e = e; ensured = ensured; left = refl };
   transport = λ s f κs l r e lends ensured. record { κs = κs; l = l; lends = lends; r = r; e = e; ensured = ensured; left = refl };
   set-boundaries = λ s f new κs l r e lends ensured. record { κs = κs; l = l; lends = lends; r = r; e = e; ensured = ensured; left = refl };
   greatest-step = λ s f κs l r lends ensured. record { κs = κs; l = l; lends = lends; r = r; ensured = ensured; left = refl };

@@ -25,20 +25,20 @@ use Rattle.jemmyfern_c.proofs.Functions.{Lent, given, OpenLeft, StepLeft, Trans
 -- answers, e what stands in the columns and in the list that it may write when it has returned. f is what is free at every call on the record: the wants.
 --   lends    s with the wants of the call is the record that the function is given: the lent columns as they stand, X, boundaries and ledger as last handed back, and the lent
 --            list by value (`given`, `loaded`). 'The list goes with the record, each call being given it as the last left it; only the wants may be changed in between'
---   ensured  the function's `ensures` of just these (`Post`), which computes to the call's definition: of a step `StepCameTo (given ..) t (stepWith r ..) ..`, that is
---            r .refusal ≡ step (given ..) t .refusal and so on, field by field; and that what lies behind the first 32 outlets of the list is as it came (`RestKept`).
+--   ensured  the function's `ensures` of just these (`Post`), which computes to the call's definition: of a step `StepCameTo (given ..) t F (stepWith r ..) ..`, that is
+--            r .refusal ≡ step (given ..) t F .refusal and so on, field by field; and that what lies behind the first 32 outlets of the list is as it came (`RestKept`).
 --            `came`, in the contracts of src/lib.rt, is the record at entry: `given`
 --   left     s' is what stands in the columns and in the list, with X and what the function handed back
 -- The tally finds out by itself which calls are accepted, on its own record (`refusalOf` in `count`): it is the program's own answer, r .refusal (`SameAnswer`, below).
 
--- jemmyfern_step, of t
-pub record StepLink (s : Reach) (f : Free) (t : ℕ) (s' : Reach) : Type 0 where
+-- jemmyfern_step, of t with Strickler's coefficient F
+pub record StepLink (s : Reach) (f : Free) (t F : ℕ) (s' : Reach) : Type 0 where
   pub κs : Lfts 7
   pub l : Lent
   pub lends : withWants (f .wants) s ≡ given l (s .cellLength) (s .held)
   pub r : Stepped
   pub e : StepLeft
-  pub ensured : StepEnsures κs l (s .cellLength) (s .held) t r e
+  pub ensured : StepEnsures κs l (s .cellLength) (s .held) t F r e
   pub left : s' ≡ reachOf (now (l .bed)) (e .depth) (e .discharge) (e .mass) (e .base) (e .carried) (s .cellLength) (givenHeld (r .boundaries) (r .ledger) (e .outlets))
 
 -- jemmyfern_transport
@@ -95,7 +95,7 @@ pub record OpenLink (s : Reach) (sheet : List ℕ) (outlets : List Outlet) (s' :
   pub left : s' ≡ goesOn s (openWith r (e .outlets)) (e .bed) (e .depth) (e .discharge) (e .mass) (e .base) (e .carried)
 
 abbrev pub Link : Reach → Free → Call → Reach → Type 0
-Link s f (stepCall t) s' = StepLink s f t s'
+Link s f (stepCall t F) s' = StepLink s f t F s'
 Link s f transportCall s' = TransportLink s f s'
 Link s f (boundariesCall new) s' = BoundariesLink s f new s'
 Link s f greatestCall s' = GreatestLink s f s'
@@ -126,9 +126,9 @@ EveryChain = (s : Reach) (outlets : List Outlet) (es : List Entry) → s .held .
 -- and of every call, whatever loans, lifetimes and output it is given: a link asks no more than that s with the wants is what was lent and that the function ensured
 -- what it ensures
 pub record EveryCall : Type 0 where
-  pub step : (s : Reach) (f : Free) (t : ℕ) (κs : Lfts 7) (l : Lent) (r : Stepped) (e : StepLeft) → withWants (f .wants) s ≡ given l (s .cellLength) (s .held)
-      → StepEnsures κs l (s .cellLength) (s .held) t r e
-      → StepLink s f t (reachOf (now (l .bed)) (e .depth) (e .discharge) (e .mass) (e .base) (e .carried) (s .cellLength) (givenHeld (r .boundaries) (r .ledger) (e .outlets)))
+  pub step : (s : Reach) (f : Free) (t F : ℕ) (κs : Lfts 7) (l : Lent) (r : Stepped) (e : StepLeft) → withWants (f .wants) s ≡ given l (s .cellLength) (s .held)
+      → StepEnsures κs l (s .cellLength) (s .held) t F r e
+      → StepLink s f t F (reachOf (now (l .bed)) (e .depth) (e .discharge) (e .mass) (e .base) (e .carried) (s .cellLength) (givenHeld (r .boundaries) (r .ledger) (e .outlets)))
   pub transport : (s : Reach) (f : Free) (κs : Lfts 7) (l : Lent) (r : Answer) (e : TransportLeft) → withWants (f .wants) s ≡ given l (s .cellLength) (s .held)
       → TransportEnsures κs l (s .cellLength) (s .held) r e
       → TransportLink s f (reachOf (now (l .bed)) (now (l .depth)) (now (l .discharge)) (e .mass) (e .base) (e .carried) (s .cellLength) (givenHeld (r .boundaries) (r .ledger) (e .outlets)))
@@ -160,7 +160,7 @@ EveryWants =
 
 -- what the function of a link answered: 0 or the number of its refusal
 abbrev pub answer : (s : Reach) (f : Free) (c : Call) (s' : Reach) → Link s f c s' → ℕ
-answer s f (stepCall t) s' k = k .r .refusal
+answer s f (stepCall t F) s' k = k .r .refusal
 answer s f transportCall s' k = k .r .refusal
 answer s f (boundariesCall new) s' k = k .r .refusal
 answer s f greatestCall s' k = k .r .refusal

@@ -20,14 +20,14 @@ module _ (n : ℕ) (s : Reach) (t : ℕ) (a : AsLoaded n (s .held .outlets)) whe
       go true = a
       go false = transported-as-loaded n s a
 
-  stepped : AsLoaded n (afterStep s t .held .outlets)
+  stepped : (F : ℕ) → AsLoaded n (afterStep s t F .held .outlets)
   unfolding afterStep stepHeld stepOutlets
-  stepped = each-as-loaded n (steppedOutlet s t) (transportedFirst s t .held .outlets) first
+  stepped F = each-as-loaded n (steppedOutlet s t) (transportedFirst s t .held .outlets) first
 
-  pub step-as-loaded : AsLoaded n (step s t .reach .held .outlets)
+  pub step-as-loaded : (F : ℕ) → AsLoaded n (step s t F .reach .held .outlets)
   unfolding step
-  step-as-loaded = go (firstRefusal (stepGrounds s t))
+  step-as-loaded F = go (firstRefusal (stepGrounds s t F))
     where
-      go : (v : Check) → AsLoaded n (outcome v s (afterStep s t) .reach .held .outlets)
-      go Pass = stepped
+      go : (v : Check) → AsLoaded n (outcome v s (afterStep s t F) .reach .held .outlets)
+      go Pass = stepped F
       go (Refused _) = a

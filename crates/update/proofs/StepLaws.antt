@@ -187,14 +187,14 @@ net-parts s t i =
     let b = ap L (net-is s t i) ∙ left-sub (rightward s t i) (leftward s t i) in
     omega arith
 
-ledger-water : (s : Reach) (t : ℕ) →
-    let k = afterStep s t .held .ledger in
+ledger-water : (s : Reach) (t F : ℕ) →
+    let k = afterStep s t F .held .ledger in
     (k .left .«water_in» ≡ s .held .ledger .left .«water_in» + positive (netAt s t 0))
     × (k .left .«water_out» ≡ s .held .ledger .left .«water_out» + positive (negℤ (netAt s t 0)))
     × (k .right .«water_in» ≡ s .held .ledger .right .«water_in» + positive (negℤ (netAt s t (cells s))))
     × (k .right .«water_out» ≡ s .held .ledger .right .«water_out» + positive (netAt s t (cells s)))
 unfolding afterStep stepHeld stepLedger withBoundaryWater withWater transportedFirst afterTransport transportHeld transportLedger ledgerWith withMass
-ledger-water s t = go (keepsSums s t)
+ledger-water s t F = go (keepsSums s t)
   where
     go : (b : Bool) →
         let k = cond b s (afterTransport s) .held .ledger in
@@ -206,9 +206,9 @@ ledger-water s t = go (keepsSums s t)
     go false = (refl, refl, refl, refl)
 
 -- bounds are those of the record that N is added to: the step moves water alone
-of-transported : (s : Reach) (t : ℕ) (lo hi : ℕ → ℤ) → CellsWithin lo hi (transportedFirst s t) → CellsWithin lo hi (afterStep s t)
+of-transported : (s : Reach) (t F : ℕ) (lo hi : ℕ → ℤ) → CellsWithin lo hi (transportedFirst s t) → CellsWithin lo hi (afterStep s t F)
 unfolding afterStep
-of-transported s t lo hi w =
+of-transported s t F lo hi w =
     let e = ap length (transported-bed s t) in
     record { above = λ i l. w .above i (omega arith); below = λ i l. w .below i (omega arith) }
 
@@ -404,29 +404,29 @@ module _ (s : Reach) (k : Sound s) (t : ℕ) (cfl : meetsCfl (placeSpeed s) (cel
       transported-cells : cells (transportedFirst s t) ≡ cells s
       transported-cells = ap length (transported-bed s t)
 
-      depth-of : (i : ℕ) → i < cells s → depthAt (afterStep s t) i ≡ positive (newDepth s t i)
+      depth-of : (F i : ℕ) → i < cells s → depthAt (afterStep s t F) i ≡ positive (newDepth s t i)
       unfolding afterStep
-      depth-of i l = getD-tabulate (cells s) (λ n. positive (newDepth s t n)) i 0 l
+      depth-of F i l = getD-tabulate (cells s) (λ n. positive (newDepth s t n)) i 0 l
 
-      discharge-of : (i : ℕ) → i < cells s → dischargeAt (afterStep s t) i ≡ newDischarge s t i
+      discharge-of : (F i : ℕ) → i < cells s → dischargeAt (afterStep s t F) i ≡ newDischarge s t F i
       unfolding afterStep
-      discharge-of i l = getD-tabulate (cells s) (newDischarge s t) i (pos 0) l
+      discharge-of F i l = getD-tabulate (cells s) (newDischarge s t F) i (pos 0) l
 
-      carried-of : (i : ℕ) → i ≤ cells s → carriedAt (afterStep s t) i ≡ carriedAt (transportedFirst s t) i +ℤ netAt s t i
+      carried-of : (F i : ℕ) → i ≤ cells s → carriedAt (afterStep s t F) i ≡ carriedAt (transportedFirst s t) i +ℤ netAt s t i
       unfolding afterStep
-      carried-of i l = getD-tabulate (suc (cells s)) (λ n. carriedAt (transportedFirst s t) n +ℤ netAt s t n) i (pos 0) (omega arith)
+      carried-of F i l = getD-tabulate (suc (cells s)) (λ n. carriedAt (transportedFirst s t) n +ℤ netAt s t n) i (pos 0) (omega arith)
 
-      discharge-within : (i : ℕ) → natAbs (newDischarge s t i) ≤ 8_000 * positive (newDepth s t i)
+      discharge-within : (F i : ℕ) → natAbs (newDischarge s t F i) ≤ 8_000 * positive (newDepth s t i)
       unfolding newDischarge
-      discharge-within i = nearest-within _ _
+      discharge-within F i = nearest-within _ _
 
-      cell-after : (i : ℕ) → i < cells s
-          → CellSound (bedAt s i) (positive (newDepth s t i)) (newDischarge s t i) (massAt (transportedFirst s t) i) (baseAt (transportedFirst s t) i)
-      cell-after i l =
+      cell-after : (F i : ℕ) → i < cells s
+          → CellSound (bedAt s i) (positive (newDepth s t i)) (newDischarge s t F i) (massAt (transportedFirst s t) i) (baseAt (transportedFirst s t) i)
+      cell-after F i l =
           let c = transported-sound .cell i (omega (arith, transported-cells)) in record {
             bed = k .cell i l .bed;
             depth = deep-at i l;
-            discharge = discharge-within i;
+            discharge = discharge-within F i;
             base = c .base;
             mass = c .mass;
           }
@@ -455,15 +455,15 @@ module _ (s : Reach) (k : Sound s) (t : ℕ) (cfl : meetsCfl (placeSpeed s) (cel
       unfolding stepOutlets steppedOutlet
       outlets-fit = each-fits (steppedOutlet s t) rs few-there (cells s) (λ n l. (refl, refl)) (rw transported-cells at (transported-sound .outlets))
 
-      pub stepped-sound : Sound (afterStep s t)
+      pub stepped-sound : (F : ℕ) → Sound (afterStep s t F)
       unfolding afterStep stepHeld
-      stepped-sound =
+      stepped-sound F =
           let r = transported-sound in
           let e = transported-boundaries s t in record {
             some = k .some;
             few = k .few;
             depths = length-tabulate (cells s) (λ i. positive (newDepth s t i));
-            discharges = length-tabulate (cells s) (newDischarge s t);
+            discharges = length-tabulate (cells s) (newDischarge s t F);
             masses = r .masses ∙ transported-cells;
             bases = r .bases ∙ transported-cells;
             interfaces = length-tabulate (suc (cells s)) (λ i. carriedAt (transportedFirst s t) i +ℤ netAt s t i) ∙ sym (add-one (cells s));
@@ -472,10 +472,10 @@ module _ (s : Reach) (k : Sound s) (t : ℕ) (cfl : meetsCfl (placeSpeed s) (cel
             left = k .left;
             right = k .right;
             boundaries = k .boundaries;
-            cell = λ i l. rw (depth-of i l, discharge-of i l) (cell-after i l);
-            water = λ i l. rw (depth-of i l, add-one i, carried-of i (omega arith), carried-of (suc i) l) (water-of i l);
-            shutLeft = λ w. carried-of 0 (omega arith) ∙ shut _ _ (r .shutLeft (ap (λ x. leftBoundary x .kind) e ∙ w)) (wall-left s t (k .some) w);
-            shutRight = λ w. carried-of (cells s) (omega arith) ∙ shut _ _ (ap (carriedAt (transportedFirst s t)) (sym transported-cells) ∙ r .shutRight (ap (λ x. rightBoundary x .kind) e ∙ w)) (wall-right s t (k .some) w);
+            cell = λ i l. rw (depth-of F i l, discharge-of F i l) (cell-after F i l);
+            water = λ i l. rw (depth-of F i l, add-one i, carried-of F i (omega arith), carried-of F (suc i) l) (water-of i l);
+            shutLeft = λ w. carried-of F 0 (omega arith) ∙ shut _ _ (r .shutLeft (ap (λ x. leftBoundary x .kind) e ∙ w)) (wall-left s t (k .some) w);
+            shutRight = λ w. carried-of F (cells s) (omega arith) ∙ shut _ _ (ap (carriedAt (transportedFirst s t)) (sym transported-cells) ∙ r .shutRight (ap (λ x. rightBoundary x .kind) e ∙ w)) (wall-right s t (k .some) w);
             outlets = outlets-fit;
             totals = totals-after;
           }
@@ -508,25 +508,25 @@ module _ (s : Reach) (k : Sound s) (t : ℕ) (cfl : meetsCfl (placeSpeed s) (cel
   unfolding waterHeld
   held-before = sum-by-index (s .depth) ∙ ap (λ (n : ℕ). sumBelow n (depthAt s)) (k .depths)
 
-  held-after : waterHeld (afterStep s t) ≡ sumBelow (cells s) (λ i. positive (newDepth s t i))
+  held-after : (F : ℕ) → waterHeld (afterStep s t F) ≡ sumBelow (cells s) (λ i. positive (newDepth s t i))
   unfolding waterHeld afterStep
-  held-after = sum-tabulate (cells s) (λ i. positive (newDepth s t i))
+  held-after F = sum-tabulate (cells s) (λ i. positive (newDepth s t i))
 
-  outlets-after : outletWater (afterStep s t .held .outlets) ≡ outletWater (stepOutlets s t)
+  outlets-after : (F : ℕ) → outletWater (afterStep s t F .held .outlets) ≡ outletWater (stepOutlets s t)
   unfolding afterStep stepHeld
-  outlets-after = refl
+  outlets-after F = refl
 
-  pub step-water-balanced : WaterBalanced s (afterStep s t)
+  pub step-water-balanced : (F : ℕ) → WaterBalanced s (afterStep s t F)
   unfolding WaterBalanced waterIn waterOut waterGone
-  step-water-balanced =
+  step-water-balanced F =
       let first = net-parts s t 0 in
       let last = net-parts s t (cells s) in
-      let w = ledger-water s t in
+      let w = ledger-water s t F in
       omega (
         arith,
         held-before,
-        held-after,
-        outlets-after,
+        held-after F,
+        outlets-after F,
         outlets-gain,
         drawn-all,
         sum-add (cells s) (λ i. positive (newDepth s t i)) (λ i. sum (draws s t i)),
@@ -549,14 +549,14 @@ transported-mass s k t = go (keepsSums s t)
     go true = refl
     go false = transport-balanced s k
 
-pub step-mass-balanced : (s : Reach) → Sound s → (t : ℕ) → MassBalanced s (afterStep s t)
+pub step-mass-balanced : (s : Reach) → Sound s → (t F : ℕ) → MassBalanced s (afterStep s t F)
 unfolding MassBalanced massHeld massIn massOut massGone afterStep stepHeld stepLedger withBoundaryWater withWater
-step-mass-balanced s k t = omega (arith, mass-same s k t, transported-mass s k t)
+step-mass-balanced s k t F = omega (arith, mass-same s k t, transported-mass s k t)
 
-pub step-within : (s : Reach) → Sound s → (t : ℕ) (lo hi : ℤ) → CellsWithin (everywhere lo) (everywhere hi) s → BoundariesWithin (everywhere lo) (everywhere hi) (cells s) (s .held .boundaries)
-    → CellsWithin (everywhere lo) (everywhere hi) (afterStep s t)
+pub step-within : (s : Reach) → Sound s → (t F : ℕ) (lo hi : ℤ) → CellsWithin (everywhere lo) (everywhere hi) s → BoundariesWithin (everywhere lo) (everywhere hi) (cells s) (s .held .boundaries)
+    → CellsWithin (everywhere lo) (everywhere hi) (afterStep s t F)
 unfolding transportedFirst
-step-within s k t lo hi w e = of-transported s t (everywhere lo) (everywhere hi) (go (keepsSums s t))
+step-within s k t F lo hi w e = of-transported s t F (everywhere lo) (everywhere hi) (go (keepsSums s t))
   where
     go : (b : Bool) → CellsWithin (everywhere lo) (everywhere hi) (cond b s (afterTransport s))
     go true = w
@@ -564,30 +564,30 @@ step-within s k t lo hi w e = of-transported s t (everywhere lo) (everywhere hi)
 
 -- ---- the call: what each outcome is, and what an accepted one leaves
 
-all-numbered : (s : Reach) (t : ℕ) → numbered (stepGrounds s t) ≡ true
+all-numbered : (s : Reach) (t F : ℕ) → numbered (stepGrounds s t F) ≡ true
 unfolding numbered
-all-numbered s t = refl
+all-numbered s t F = refl
 
 -- every statement about the outcome, by the two ways it can go
-pub by-step : (s : Reach) (t : ℕ) (P : Outcome → Type 0)
+pub by-step : (s : Reach) (t F : ℕ) (P : Outcome → Type 0)
     → ((n : ℕ) → 0 < n → P (record { refusal = n; reach = s }))
     → (Sound s → meetsCfl (placeSpeed s) (cells s + 1) (s .cellLength) t ≡ true → depthsFit s t ≡ true → allTotalsFit (stepHeld s t) ≡ true
-    → P (record { refusal = 0; reach = afterStep s t }))
-    → P (step s t)
+    → P (record { refusal = 0; reach = afterStep s t F }))
+    → P (step s t F)
 unfolding step
-by-step s t P stays moves = go (firstRefusal (stepGrounds s t)) refl
+by-step s t F P stays moves = go (firstRefusal (stepGrounds s t F)) refl
   where
-    go : (k : Check) → firstRefusal (stepGrounds s t) ≡ k → P (outcome k s (afterStep s t))
-    go (Refused n) e = stays n (refused-number (stepGrounds s t) n (all-numbered s t) e)
+    go : (k : Check) → firstRefusal (stepGrounds s t F) ≡ k → P (outcome k s (afterStep s t F))
+    go (Refused n) e = stays n (refused-number (stepGrounds s t F) n (all-numbered s t F) e)
     go Pass e =
-        let g = stood (stepGrounds s t) e in
-        moves (sound s (s .held .boundaries) (passed-first (recordGrounds s (s .held .boundaries)) _ e)) (g 9) (g 10) (g 11)
+        let g = stood (stepGrounds s t F) e in
+        moves (sound s (s .held .boundaries) (passed-first (recordGrounds s (s .held .boundaries)) _ e)) (g 10) (g 11) (g 12)
 
 -- an accepted step leaves a record that stands grounds 4 to 9 again, whatever pair it is given next
-pub step-stands-again : (s : Reach) (t : ℕ) (gs : List Boundary) → step s t .refusal ≡ 0 → boundariesFit gs ≡ true
-    → firstRefusal (recordGrounds (step s t .reach) gs) ≡ Pass
-step-stands-again s t gs e g =
-    by-step s t (λ o. o .refusal ≡ 0 → firstRefusal (recordGrounds (o .reach) gs) ≡ Pass)
+pub step-stands-again : (s : Reach) (t F : ℕ) (gs : List Boundary) → step s t F .refusal ≡ 0 → boundariesFit gs ≡ true
+    → firstRefusal (recordGrounds (step s t F .reach) gs) ≡ Pass
+step-stands-again s t F gs e g =
+    by-step s t F (λ o. o .refusal ≡ 0 → firstRefusal (recordGrounds (o .reach) gs) ≡ Pass)
     (λ n p z. absurd (omega arith))
-    (λ k c d l z. stands (afterStep s t) gs (stepped-sound s k t c d l) g)
+    (λ k c d l z. stands (afterStep s t F) gs (stepped-sound s k t c d l F) g)
     e

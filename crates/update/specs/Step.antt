@@ -1,4 +1,4 @@
--- Document 01, 'A water step': the transport test (the paper's 'settling test'), the ledger's boundary water, what the outlets have, grounds 10 to 13, and the record after the step.
+-- Document 01, 'A water step': the transport test (the paper's 'settling test'), the ledger's boundary water, what the outlets have, grounds 10 to 13, and the record after the step. Document 02, points 1 and 4.
 use mathlib.Core.Bool.{Bool, not, cond, _&&_}
 use mathlib.Core.List.{List, [], _∷_, _++_}
 use Prim.Native.Nat.{ℕ, suc, _+_}
@@ -11,6 +11,7 @@ use Rattle.outlet.specs.Outlets.{outletAt, eachOutlet}
 use Rattle.outlet.specs.declared.Outlet.{Outlet}
 use Rattle.outlet.specs.declared.Outlets.{Outlets}
 use Rattle.flux.specs.Limits.{depthMost, timeStepMost}
+use Rattle.friction.specs.Friction.{stricklerFits}
 use Rattle.cfl.specs.Cfl.{meetsCfl}
 use Rattle.reach.specs.Reach.{Reach, cells, baseAt, carriedAt, withTotals}
 use Rattle.reach.specs.Parts.{outflow}
@@ -75,12 +76,13 @@ stepHeld s t = withTotals (stepLedger s t) (stepOutlets s t) (s .held)
 
 -- ---- the record after the step
 
-unfoldable pub afterStep : Reach → (t : ℕ) → Reach
-afterStep s t =
+-- F is Strickler's coefficient (document 02, point 4): of the record after the step the discharge alone depends on it
+unfoldable pub afterStep : Reach → (t F : ℕ) → Reach
+afterStep s t F =
     let r = transportedFirst s t in record {
       bed = s .bed;
       depth = tabulate (cells s) (λ i. positive (newDepth s t i));
-      discharge = tabulate (cells s) (newDischarge s t);
+      discharge = tabulate (cells s) (newDischarge s t F);
       mass = r .mass;
       base = r .base;
       carried = tabulate (suc (cells s)) (λ i. carriedAt r i +ℤ netAt s t i);
@@ -88,7 +90,7 @@ afterStep s t =
       held = stepHeld s t;
     }
 
--- ---- grounds 10 to 13
+-- ---- grounds 10 to 13, and 17 after 10
 
 -- 10: t is in 1..1,000
 unfoldable pub timeFits : ℕ → Bool
@@ -98,19 +100,20 @@ timeFits t = allOf (leb 1 t ∷ leb t timeStepMost ∷ [])
 unfoldable pub depthsFit : Reach → (t : ℕ) → Bool
 depthsFit s t = allBelow (cells s) (λ i. leZ (newDepth s t i) (pos depthMost))
 
--- 4 to 9, then 10; 11, CFL; 12; 13, no total passes 10^18 by this call, the mass of a transport inside it counted
-abbrev pub stepGrounds : Reach → (t : ℕ) → List Ground
-stepGrounds s t =
+-- 4 to 9, then 10; 17, F is 0 or in 10..90; 11, CFL; 12; 13, no total passes 10^18 by this call, the mass of a transport inside it counted
+abbrev pub stepGrounds : Reach → (t F : ℕ) → List Ground
+stepGrounds s t F =
     recordGrounds s (s .held .boundaries)
     ++ (ground 10 (timeFits t)
+    ∷ ground 17 (stricklerFits F)
     ∷ ground 11 (meetsCfl (placeSpeed s) (cells s + 1) (s .cellLength) t)
     ∷ ground 12 (depthsFit s t)
     ∷ ground 13 (allTotalsFit (stepHeld s t))
     ∷ [])
 
-unfoldable pub step : Reach → (t : ℕ) → Outcome
-step s t = outcome (firstRefusal (stepGrounds s t)) s (afterStep s t)
+unfoldable pub step : Reach → (t F : ℕ) → Outcome
+step s t F = outcome (firstRefusal (stepGrounds s t F)) s (afterStep s t F)
 
 -- whether an accepted step transported first: the paper's 'moment of settling'
-unfoldable pub transports : Reach → (t : ℕ) → Bool
-transports s t = eqb (step s t .refusal) 0 && not (keepsSums s t)
+unfoldable pub transports : Reach → (t F : ℕ) → Bool
+transports s t F = eqb (step s t F .refusal) 0 && not (keepsSums s t)

@@ -27,6 +27,9 @@ use Rattle.flux.specs.Crossing.{waterFlux, stillThrust}
 use Rattle.flux.specs.Interface.{Side, reducedDepth, leftDepth, rightDepth, netWater, momentumSum, mirrored}
 use Rattle.flux.specs.Limits.{depthMost, velocityMost}
 use Rattle.flux.specs.Ranges.{Mesh}
+use Rattle.friction.specs.Friction.{centimetres, conveyanceSquared, drag, slowed, slowedBy}
+use Rattle.friction.specs.Ranges.{tableMost}
+use Rattle.friction.proofs.FrictionLaws.{in-list}
 use Rattle.flux.proofs.CrossingLaws.{still-thrust-mono, still-thrust-most, water-flux-most, momentum-flux-most}
 use Rattle.flux.proofs.VelocityLaws.{velocity-most}
 use Rattle.flux.proofs.InterfaceLaws.{reduced-depth-le, net-water-is, wall-passes-nothing, cell-outflow-le-depth}
@@ -145,9 +148,10 @@ pub depth-is : (s : Reach) (t i : ℕ) → newDepth s t i ≡ grantedDepth s t (
 unfolding newDepth grantedDepth
 depth-is s t i = rw (granted-is s t i) refl
 
-pub discharge-is : (s : Reach) (t i : ℕ) → newDischarge s t i ≡ grantedDischarge s t (sum (wantsFrom (s .held .outlets) i)) i
+-- where the depth is in range, so that the list of friction has an entry for it
+pub discharge-is : (s : Reach) (t F i : ℕ) → positive (newDepth s t i) ≤ depthMost → newDischarge s t F i ≡ grantedDischarge s t F (sum (wantsFrom (s .held .outlets) i)) i
 unfolding newDischarge grantedDischarge
-discharge-is s t i = rw (depth-is s t i) refl
+discharge-is s t F i l = rw (← depth-is s t i, ← in-list (positive (newDepth s t i)) l) refl
 
 -- ---- draws by outlet
 
@@ -467,11 +471,14 @@ module _ (s : Reach) (t : ℕ) where
     unfolding ownRight cellSide leftSide
     lost-right = rw (add-one i) at (k' .lost-left-is)
 
-    pub discharge-by-crossings : (w : ℕ) → grantedDischarge s t w i ≡ nearest (velocityMost * (depthAt s i + a + b' - (b + a' + min (depthAt s i - (b + a')) w))) (dischargeAt s i +ℤ pos (p + e) -ℤ pos (p' + d'))
-    unfolding grantedDischarge momentumAt
-    discharge-by-crossings w =
+    pub discharge-by-crossings : (F w D : ℕ) →
+        let h = depthAt s i + a + b' - (b + a' + min (depthAt s i - (b + a')) w) in
+        D ≡ conveyanceSquared F (min (centimetres h) tableMost)
+        → grantedDischarge s t F w i ≡ nearest (velocityMost * h) (slowedBy F D (drag t (natAbs (cellSide s i .velocity))) (dischargeAt s i +ℤ pos (p + e) -ℤ pos (p' + d')))
+    unfolding grantedDischarge momentumAt slowed
+    discharge-by-crossings F w D c =
         let m : p' ≡ momentumAt s t (suc i) = rw (add-one i) at (k' .momentum-is) in
-        rw (pushed-is s t i l, depth-by-crossings w, ← lost-left, ← lost-right, ← m, ← k .momentum-is) refl
+        rw (c, pushed-is s t i l, depth-by-crossings w, ← lost-left, ← lost-right, ← m, ← k .momentum-is) refl
 
 -- CFL at one side more
 pub meets-more : (first : Bool) (f : ℕ → Bool) (i : ℕ) → ((first && allBelow (i + 1) f) && f (i + 1)) ≡ (first && allBelow (i + 1 + 1) f)
@@ -571,14 +578,14 @@ module _ (s : Reach) (t : ℕ) where
   unfolding grantedDepth undrawnDepth
   depth-same w i = rw (granted-same w i, net-same i, net-same (suc i)) refl
 
-  discharge-same : (w i : ℕ) → grantedDischarge flow t w i ≡ grantedDischarge s t w i
-  unfolding grantedDischarge
-  discharge-same w i = rw (depth-same w i, pushed-same i) refl
+  discharge-same : (F w i : ℕ) → grantedDischarge flow t F w i ≡ grantedDischarge s t F w i
+  unfolding grantedDischarge cellSide
+  discharge-same F w i = rw (depth-same w i, pushed-same i) refl
 
-  pub swept-same : (wanted : List ℕ) (net : List ℤ) (given depth : List ℕ) (discharge : List ℤ) → Swept flow t wanted net given depth discharge → Swept s t wanted net given depth discharge
-  swept-same wanted net given depth discharge k = record {
+  pub swept-same : (F : ℕ) (wanted : List ℕ) (net : List ℤ) (given depth : List ℕ) (discharge : List ℤ) → Swept flow t F wanted net given depth discharge → Swept s t F wanted net given depth discharge
+  swept-same F wanted net given depth discharge k = record {
     nets = λ i l. k .nets i l ∙ net-same i;
     grants = λ i l. k .grants i l ∙ granted-same (getD wanted i 0) i;
     depths = λ i l. k .depths i l ∙ ap positive (depth-same (getD wanted i 0) i);
-    discharges = λ i l. k .discharges i l ∙ discharge-same (getD wanted i 0) i;
+    discharges = λ i l. k .discharges i l ∙ discharge-same F (getD wanted i 0) i;
   }

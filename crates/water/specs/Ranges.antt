@@ -13,10 +13,12 @@ use Rattle.flux.specs.Limits.{bedMost, depthMost, velocityMost}
 use Rattle.flux.specs.Crossing.{waterFlux, stillThrust}
 use Rattle.flux.specs.Interface.{Side, leftDepth, rightDepth, momentumSum}
 use Rattle.flux.specs.Wave.{waveSpeed}
+use Rattle.friction.specs.Friction.{centimetres, slowed}
+use Rattle.friction.specs.Ranges.{tableMost}
 use Rattle.reach.specs.Reach.{Reach, reachOf, cells, bedAt, depthAt, dischargeAt, leftBoundary, rightBoundary, heldWith}
 use Rattle.reach.specs.declared.boundary.Boundary.{Boundary}
 use Rattle.reach.specs.declared.ledger.Totals.{Totals}
-use Rattle.water.specs.Sides.{sideSpeed, leftSide, rightSide}
+use Rattle.water.specs.Sides.{cellSide, sideSpeed, leftSide, rightSide}
 use Rattle.water.specs.Water.{netAt, available, undrawnDepth, pushed, nearest}
 use Rattle.water.specs.declared.SideState.{SideState}
 use Rattle.water.specs.declared.Exchange.{Exchange}
@@ -86,20 +88,23 @@ sideMeets t X s = leb (t * sideSpeed s) (1_000 * X)
 unfoldable pub sidesMeet : Reach → (t : ℕ) → Bool
 sidesMeet s t = sideMeets t (s .cellLength) (leftSide s 0) && allBelow (suc (cells s)) (λ i. sideMeets t (s .cellLength) (rightSide s i))
 
--- what a cell gives of `wanted`, and the depth and the discharge that it then has; with the wants of its outlets these are `draws`, `newDepth` and
--- `newDischarge` (`granted-is`, `depth-is`, `discharge-is`)
+-- what a cell gives of `wanted`, and the depth and the discharge that it then has; with the wants of its outlets these are `draws`, `newDepth` and,
+-- where the depth is in range, `newDischarge` (`granted-is`, `depth-is`, `discharge-is`)
 unfoldable pub granted : Reach → (t wanted i : ℕ) → ℕ
 granted s t wanted i = min (positive (available s t i)) wanted
 
 unfoldable pub grantedDepth : Reach → (t wanted i : ℕ) → ℤ
 grantedDepth s t wanted i = undrawnDepth s t i -ℤ pos (granted s t wanted i)
 
-unfoldable pub grantedDischarge : Reach → (t wanted i : ℕ) → ℤ
-grantedDischarge s t wanted i = nearest (velocityMost * positive (grantedDepth s t wanted i)) (pushed s t i)
+-- (k up to 400: a greater one is of a depth that ground 12 refuses)
+unfoldable pub grantedDischarge : Reach → (t F wanted i : ℕ) → ℤ
+grantedDischarge s t F wanted i =
+    let h = positive (grantedDepth s t wanted i) in
+    nearest (velocityMost * h) (slowed F t (natAbs (cellSide s i .velocity)) (min (centimetres h) tableMost) (pushed s t i))
 
 -- what the sweep gives: N at each interface; what each cell gives of the wants; and depth and discharge of each cell after the step
-pub record Swept (s : Reach) (t : ℕ) (wanted : List ℕ) (net : List ℤ) (given depth : List ℕ) (discharge : List ℤ) : Type 0 where
+pub record Swept (s : Reach) (t F : ℕ) (wanted : List ℕ) (net : List ℤ) (given depth : List ℕ) (discharge : List ℤ) : Type 0 where
   pub nets : (i : ℕ) → i ≤ cells s → getD net i (pos 0) ≡ netAt s t i
   pub grants : (i : ℕ) → i < cells s → getD given i 0 ≡ granted s t (getD wanted i 0) i
   pub depths : (i : ℕ) → i < cells s → getD depth i 0 ≡ positive (grantedDepth s t (getD wanted i 0) i)
-  pub discharges : (i : ℕ) → i < cells s → getD discharge i (pos 0) ≡ grantedDischarge s t (getD wanted i 0) i
+  pub discharges : (i : ℕ) → i < cells s → getD discharge i (pos 0) ≡ grantedDischarge s t F (getD wanted i 0) i

@@ -1,9 +1,9 @@
--- Document 01, 'A water step': what a step of t makes of the water of a record, as formulas; whether the step is refused and whether it
+-- Document 01, 'A water step', and document 02, points 1 and 4: what a step of t makes of the water of a record, as formulas; whether the step is refused and whether it
 -- transports first is another matter.
 use mathlib.Core.Bool.{cond}
 use mathlib.Core.List.{List}
 use Prim.Native.Nat.{ℕ, suc, _+_, _*_}
-use lib.IntN.{ℤ, pos, _+ℤ_, _-ℤ_, negℤ}
+use lib.IntN.{ℤ, pos, _+ℤ_, _-ℤ_, negℤ, natAbs}
 use lib.ListN.{getD}
 use lib.Signed.{leZ}
 use Rattle.numbers.specs.Deal.{dealt}
@@ -14,6 +14,7 @@ use Rattle.outlet.specs.declared.Outlets.{Outlets}
 use Rattle.flux.specs.Limits.{velocityMost}
 use Rattle.flux.specs.Crossing.{waterFlux, stillThrust}
 use Rattle.flux.specs.Interface.{leftDepth, rightDepth, netWater, momentumSum}
+use Rattle.friction.specs.Friction.{centimetres, slowed}
 use Rattle.reach.specs.Reach.{Reach, depthAt, dischargeAt}
 use Rattle.water.specs.Sides.{cellSide, leftSide, rightSide}
 
@@ -79,6 +80,9 @@ pushed s t i =
 unfoldable pub nearest : (most : ℕ) (z : ℤ) → ℤ
 nearest most z = cond (leZ (pos most) z) (pos most) (cond (leZ z (negℤ (pos most))) (negℤ (pos most)) z)
 
--- q', moved to the nearest value in ±8,000·h': 'drawing precedes the cut of the discharge'
-unfoldable pub newDischarge : Reach → (t i : ℕ) → ℤ
-newDischarge s t i = nearest (velocityMost * positive (newDepth s t i)) (pushed s t i)
+-- q': friction of the bed (document 02, point 4) 'after the push and before the cut', with Strickler's coefficient F, the old speed and the new depth; then
+-- moved to the nearest value in ±8,000·h': 'drawing precedes the cut of the discharge'
+unfoldable pub newDischarge : Reach → (t F i : ℕ) → ℤ
+newDischarge s t F i =
+    let h = positive (newDepth s t i) in
+    nearest (velocityMost * h) (slowed F t (natAbs (cellSide s i .velocity)) (centimetres h) (pushed s t i))

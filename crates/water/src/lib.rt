@@ -8,7 +8,9 @@ ghost use Rattle.flux.specs.Limits.{bedMost, depthMost, velocityMost};
 ghost use Rattle.flux.specs.Crossing.{stillThrust};
 ghost use Rattle.flux.specs.Ranges.{Mesh, Flow};
 ghost use Rattle.flux.specs.Velocity.{velocity};
-ghost use Rattle.water.specs.Ranges.{sideOf, SideStateFits, ExchangeOf, ExchangeFits};
+ghost use Rattle.friction.specs.Friction.{slowedBy};
+ghost use Rattle.friction.specs.Ranges.{conveyanceSquaredMost, dragMost};
+ghost use Rattle.water.specs.Ranges.{sideOf, SideStateFits, ExchangeOf, ExchangeFits, thrustMost};
 ghost use Rattle.water.specs.Sides.{boundarySide};
 ghost use Rattle.water.specs.Water.{nearest};
 use flux::crossing::fluxes_of;
@@ -17,6 +19,8 @@ use flux::interface::reduced_depth;
 use flux::interface::reduced_wave;
 use flux::velocity::velocity_parts;
 use flux::wave::wave_speed;
+use friction::slow;
+use numbers::signed::Parts;
 use numbers::signed::excess;
 use numbers::signed::joined;
 use numbers::signed::left_part;
@@ -138,10 +142,16 @@ pub fn nearest_in(right: u64, left: u64, most: u64) -> i64
     joined(r - excess(r, most), l - excess(l, most))
 }
 
-// q with what is gained and lost of it, moved to the range of a depth h
-pub fn discharge_after(q: i64, gained: u64, lost: u64, h: u64) -> i64
-    requires { ⌜ (natAbs q ≤ velocityMost * depthMost) × ((gained < 9_223_372_036_854_775_808) × ((lost < 9_223_372_036_854_775_808) × (h ≤ 2_000_000_000))) ⌝ }
-    ensures { λ r. ⌜ r ≡ nearest (velocityMost * h) (q +ℤ pos gained -ℤ pos lost) ⌝ }
+// q with what is gained and lost of it, after friction by D and E, moved to the range of a depth h
+pub fn discharge_after(f: u64, d: u64, e: u64, q: i64, gained: u64, lost: u64, h: u64) -> i64
+    requires { ⌜ (d ≤ conveyanceSquaredMost) × (e ≤ dragMost) ⌝ }
+    requires { ⌜ (natAbs q ≤ velocityMost * depthMost) × ((gained ≤ 2 * thrustMost) × ((lost ≤ 2 * thrustMost) × (h ≤ 2_000_000_000))) ⌝ }
+    ensures { λ r. ⌜ r ≡ nearest (velocityMost * h) (slowedBy f d e (q +ℤ pos gained -ℤ pos lost)) ⌝ }
 {
-    nearest_in(right_part(q) + gained, left_part(q) + lost, 8_000 * h)
+    let pushed = Parts {
+        right: right_part(q) + gained,
+        left: left_part(q) + lost,
+    };
+    let slower = slow(f, d, e, pushed);
+    nearest_in(slower.right, slower.left, 8_000 * h)
 }

@@ -6,8 +6,10 @@ ghost use Prim.Native.Nat.{ℕ, _+_, _-_, _*_, _≤_, _<_, min};
 ghost use lib.Dec.{ltb};
 ghost use lib.IntN.{pos, _+ℤ_, _-ℤ_, natAbs, subℕ};
 ghost use lib.ListN.{length, getD};
-ghost use Rattle.flux.specs.Limits.{depthMost, velocityMost};
+ghost use Rattle.flux.specs.Limits.{depthMost, velocityMost, timeStepMost};
 ghost use Rattle.flux.specs.Ranges.{Mesh};
+ghost use Rattle.friction.specs.Friction.{drag, slowedBy};
+ghost use Rattle.friction.specs.Ranges.{stricklerMost, conveyanceSquaredMost};
 ghost use Rattle.reach.specs.Grounds.{passOr};
 ghost use Rattle.water.specs.Ranges.{sideOf, SideStateFits, ExchangeFits, flowOf, InRange, FlowFits, sideMeets, sidesMeet, Swept};
 ghost use Rattle.flux.specs.Velocity.{velocity};
@@ -21,11 +23,22 @@ use super::cell_state;
 use super::discharge_after;
 use super::exchange_between;
 use super::exchange_level;
+use friction::conveyance_squared;
+use friction::drag_of;
+use friction::table::four_thirds;
 use numbers::signed::excess;
 use numbers::signed::joined;
 use reach::boundary::Boundary;
 use reach::boundary::BoundaryPlace;
 use reach::refusal::Check;
+
+// |u| of a side
+fn speed_of(c: SideState) -> u64
+    requires { ⌜ SideStateFits c ⌝ }
+    ensures { λ r. ⌜ (r ≡ natAbs (sideOf c .velocity)) × (r ≤ velocityMost) ⌝ }
+{
+    excess(c.right, c.left) + excess(c.left, c.right)
+}
 
 // Whether CFL, kept so far, is kept at the side c too
 fn still_meets(met: bool, t: u64, x: u64, c: SideState) -> bool
@@ -35,7 +48,7 @@ fn still_meets(met: bool, t: u64, x: u64, c: SideState) -> bool
     if !met {
         return false;
     }
-    t * (excess(c.right, c.left) + excess(c.left, c.right) + c.wave) <= 1_000 * x
+    t * (speed_of(c) + c.wave) <= 1_000 * x
 }
 
 // Cell i, or the right boundary beside the cell before it
@@ -93,12 +106,26 @@ fn depth_after(h: u64, l: Exchange, r: Exchange, given: u64) -> u64
     )
 }
 
-// Its discharge, over the depth that it then has
-fn momentum_after(q: i64, l: Exchange, r: Exchange, depth: u64) -> i64
+// Its discharge after friction of its bed, over the depth that it then has; c is the cell before the step
+// and d is D of its new depth
+fn momentum_after(
+    f: u64,
+    d: u64,
+    t: u64,
+    c: SideState,
+    q: i64,
+    l: Exchange,
+    r: Exchange,
+    depth: u64,
+) -> i64
+    requires { ⌜ (d ≤ conveyanceSquaredMost) × ((t ≤ timeStepMost) × SideStateFits c) ⌝ }
     requires { ⌜ (natAbs q ≤ velocityMost * depthMost) × ((depth ≤ 2_000_000_000) × (ExchangeFits l × ExchangeFits r)) ⌝ }
-    ensures { λ a. ⌜ a ≡ nearest (velocityMost * depth) (q +ℤ pos (l .momentum + l .«lost_right») -ℤ pos (r .momentum + r .«lost_left»)) ⌝ }
+    ensures { λ a. ⌜ a ≡ nearest (velocityMost * depth) (slowedBy f d (drag t (natAbs (sideOf c .velocity))) (q +ℤ pos (l .momentum + l .«lost_right») -ℤ pos (r .momentum + r .«lost_left»))) ⌝ }
 {
     discharge_after(
+        f,
+        d,
+        drag_of(t, speed_of(c)),
         q,
         l.momentum + l.lost_right,
         r.momentum + r.lost_left,
@@ -120,6 +147,7 @@ fn check_cfl(met: bool) -> Check
 // wanted of each cell.
 pub fn sweep(
     t: u64,
+    f: u64,
     x: u64,
     bed: &[i64],
     depth: &[u64],
@@ -132,8 +160,9 @@ pub fn sweep(
 ) -> Check
     requires { ⌜ Mesh t x × FlowFits (flowOf (now bed) (now depth) (now discharge) x boundaries) ⌝ }
     requires { ⌜ (length (now bed) < length (now net)) × ((length (now bed) ≤ length (now given)) × ((length (now bed) ≤ length (now «new_depth»)) × (length (now bed) ≤ length (now «new_discharge»)))) ⌝ }
+    requires { ⌜ f ≤ stricklerMost ⌝ }
     ensures { λ r. ⌜ r ≡ passOr 11 (sidesMeet (flowOf (now (bed .entry)) (now (depth .entry)) (now (discharge .entry)) x boundaries) t) ⌝ }
-    ensures { λ _. ⌜ Swept (flowOf (now (bed .entry)) (now (depth .entry)) (now (discharge .entry)) x boundaries) t (now (given .entry)) (now (net .exit)) (now (given .exit)) (now («new_depth» .exit)) (now («new_discharge» .exit)) ⌝ }
+    ensures { λ _. ⌜ Swept (flowOf (now (bed .entry)) (now (depth .entry)) (now (discharge .entry)) x boundaries) t f (now (given .entry)) (now (net .exit)) (now (given .exit)) (now («new_depth» .exit)) (now («new_discharge» .exit)) ⌝ }
     ensures { λ _. ⌜ ((i : ℕ) → length (now (bed .entry)) ≤ i → getD (now (given .exit)) i 0 ≡ getD (now (given .entry)) i 0) ⌝ }
 {
     let n = bed.len();
@@ -142,6 +171,7 @@ pub fn sweep(
     let mut met = still_meets(still_meets(true, t, x, beyond), t, x, cell);
     let mut left = exchange_level(t, x, beyond, cell);
     net[0] = net_of(left);
+    let roots = four_thirds();
     let mut i = 0;
     while i < n {
         let next = right_side(bed, depth, discharge, boundaries[1], cell, i + 1);
@@ -152,7 +182,8 @@ pub fn sweep(
         net[i + 1] = net_of(right);
         given[i] = taken;
         new_depth[i] = deep;
-        new_discharge[i] = momentum_after(discharge[i], left, right, deep);
+        let d = conveyance_squared(f, deep, &roots);
+        new_discharge[i] = momentum_after(f, d, t, cell, discharge[i], left, right, deep);
         cell = next;
         left = right;
         i += 1;

@@ -90,26 +90,26 @@ pub record CflWorked : Type 0 where
   -- 14,709,975·271,900 / 1,000,000 is 3,999,642; 2,000² is 4,000,000, 1,999² is 3,996,001
   pub wave : waveSpeed 271_900 ≡ 2_000
   -- 500·2,000 = 1,000,000 passes, 501·2,000 does not; with < for ≤ 500 is 11
-  pub still-500 : step still 500 .refusal ≡ 0
-  pub still-501 : step still 501 .refusal ≡ 11
+  pub still-500 : step still 500 0 .refusal ≡ 0
+  pub still-501 : step still 501 0 .refusal ≡ 11
   -- the greatest step, at place 1, the cell
   pub still-greatest : greatest still ≡ record { refusal = 0; held = still .held; time = 500; place = 1 }
   -- 14,709,975·272,000 / 1,000,000 is 4,001,113, and 500·√4,001,113 is 1,000,139: 500 would be too long, and rounded down the wave speed would be 2,000 and let it pass
   pub rounded-up : waveSpeed 272_000 ≡ 2_001
-  pub rounded-up-499 : step (stillAt 272_000) 499 .refusal ≡ 0
-  pub rounded-up-500 : step (stillAt 272_000) 500 .refusal ≡ 11
+  pub rounded-up-499 : step (stillAt 272_000) 499 0 .refusal ≡ 0
+  pub rounded-up-500 : step (stillAt 272_000) 500 0 .refusal ≡ 11
   pub rounded-up-greatest : greatest (stillAt 272_000) ≡ record { refusal = 0; held = stillAt 272_000 .held; time = 499; place = 1 }
   -- |u| counts: 400·(500 + 2,000) = 1,000,000
-  pub flowing-400 : step flowing 400 .refusal ≡ 0
-  pub flowing-401 : step flowing 401 .refusal ≡ 11
+  pub flowing-400 : step flowing 400 0 .refusal ≡ 0
+  pub flowing-401 : step flowing 401 0 .refusal ≡ 11
   pub flowing-greatest : greatest flowing ≡ record { refusal = 0; held = flowing .held; time = 400; place = 1 }
   -- a fed boundary counts, place 0: its cell has wave speed 1,213
-  pub fed-500 : step (fedDeep 100_000) 500 .refusal ≡ 0
-  pub fed-501 : step (fedDeep 100_000) 501 .refusal ≡ 11
+  pub fed-500 : step (fedDeep 100_000) 500 0 .refusal ≡ 0
+  pub fed-501 : step (fedDeep 100_000) 501 0 .refusal ≡ 11
   pub fed-greatest : greatest (fedDeep 100_000) ≡ record { refusal = 0; held = fedDeep 100_000 .held; time = 500; place = 0 }
   -- at the right too: place 2 of one cell
-  pub right-500 : step (fedRight 100_000) 500 .refusal ≡ 0
-  pub right-501 : step (fedRight 100_000) 501 .refusal ≡ 11
+  pub right-500 : step (fedRight 100_000) 500 0 .refusal ≡ 0
+  pub right-501 : step (fedRight 100_000) 501 0 .refusal ≡ 11
   pub right-greatest : greatest (fedRight 100_000) ≡ record { refusal = 0; held = fedRight 100_000 .held; time = 500; place = 2 }
   -- among equals the highest place: the cell beside a fed boundary at its left, the second of two cells (from the left), a fed boundary at the right, the right one
   -- of two fed boundaries
@@ -121,17 +121,17 @@ pub record CflWorked : Type 0 where
   pub dry-cell : greatest dryCell ≡ record { refusal = 0; held = dryCell .held; time = 1_000; place = 2 }
   pub dry-cells : greatest dryCells ≡ record { refusal = 0; held = dryCells .held; time = 1_000; place = 4 }
   -- an open boundary does not count: it has the |u|+a of its cell, and would be the higher place; nor does a wall (`still-greatest`)
-  pub open-500 : step openRight 500 .refusal ≡ 0
-  pub open-501 : step openRight 501 .refusal ≡ 11
+  pub open-500 : step openRight 500 0 .refusal ≡ 0
+  pub open-501 : step openRight 501 0 .refusal ≡ 11
   pub open-greatest : greatest openRight ≡ record { refusal = 0; held = openRight .held; time = 500; place = 1 }
   -- |u| of a fed boundary counts: 400·(500 + 2,000) = 1,000,000; at rest 500 would pass
-  pub fed-flowing-400 : step fedFlowing 400 .refusal ≡ 0
-  pub fed-flowing-401 : step fedFlowing 401 .refusal ≡ 11
+  pub fed-flowing-400 : step fedFlowing 400 0 .refusal ≡ 0
+  pub fed-flowing-401 : step fedFlowing 401 0 .refusal ≡ 11
   pub fed-flowing-greatest : greatest fedFlowing ≡ record { refusal = 0; held = fedFlowing .held; time = 400; place = 0 }
-  pub fed-flowing-right-400 : step fedFlowingRight 400 .refusal ≡ 0
-  pub fed-flowing-right-401 : step fedFlowingRight 401 .refusal ≡ 11
+  pub fed-flowing-right-400 : step fedFlowingRight 400 0 .refusal ≡ 0
+  pub fed-flowing-right-401 : step fedFlowingRight 401 0 .refusal ≡ 11
   pub fed-flowing-right-greatest : greatest fedFlowingRight ≡ record { refusal = 0; held = fedFlowingRight .held; time = 400; place = 2 }
   -- the unreduced depth counts: with reduced ones 501 would pass
-  pub pit-500 : step pit 500 .refusal ≡ 0
-  pub pit-501 : step pit 501 .refusal ≡ 11
+  pub pit-500 : step pit 500 0 .refusal ≡ 0
+  pub pit-501 : step pit 501 0 .refusal ≡ 11
   pub pit-greatest : greatest pit ≡ record { refusal = 0; held = pit .held; time = 500; place = 2 }

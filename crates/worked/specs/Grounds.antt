@@ -1,6 +1,6 @@
 -- Document 01, 'Grounds for refusal, in checking order': the numbers of each call's grounds, in order, and which test has which number.
 use mathlib.Core.Path.{_≡_}
-use mathlib.Core.Bool.{Bool, false}
+use mathlib.Core.Bool.{Bool, true, false}
 use mathlib.Core.List.{List, [], _∷_, map}
 use Prim.Native.Nat.{ℕ}
 use lib.IntN.{ℤ, pos}
@@ -10,6 +10,7 @@ use Rattle.outlet.specs.Outlets.{noOutlet, noOutlets}
 use Rattle.outlet.specs.declared.Outlets.{Outlets}
 use Rattle.reach.specs.Grounds.{Ground, numberOf, recordGrounds}
 use Rattle.reach.specs.declared.boundary.Boundary.{Boundary}
+use Rattle.friction.specs.Friction.{stricklerFits}
 use Rattle.transport.specs.Calls.{transportGrounds, transport, setBoundaries}
 use Rattle.timestep.specs.GreatestStep.{greatest}
 use Rattle.update.specs.Step.{stepGrounds, step}
@@ -53,7 +54,7 @@ abbrev pub tooLong : Reach → Reach
 tooLong s = reachOf (s .bed) (s .depth) (s .discharge) (s .mass) (s .base) (s .carried) (s .cellLength) (withTotals (s .held .ledger) tooMany (s .held))
 
 -- ---- the ladder of a step: all is wrong at its foot, and each rung has mended one thing more. No base depth, X 0, kind 3, depth 5,000,000, 33 outlets, c 1 that h and b do not
--- account for, a total of 10^18 + 1, t 1,001; so CFL is broken, and the new depth and total are out of range too
+-- account for, a total of 10^18 + 1, t 1,001, F 9; so CFL is broken, and the new depth and total are out of range too
 abbrev pub foot : Reach
 foot = tooLong (cell [] 0 (kindOf 3) 5_000_000 (pos 1) 1_000_000_000_000_000_001 0)
 
@@ -119,33 +120,40 @@ abbrev pub lentFit : Reach
 lentFit = lent (pos 0 ∷ []) (0 ∷ []) (pos 0 ∷ []) (0 ∷ []) (0 ∷ []) (pos 0 ∷ pos 0 ∷ []) noOutlets
 
 pub record GroundsWorked : Type 0 where
-  -- 'Opening uses 1 to 7. Every other call on a record uses 4 to 9', with 16 'checked after 7'; 'then a step uses 10 to 13, a settling or end setting 13, a write 14 and 15': whatever it is given.
+  -- 'Opening uses 1 to 7. Every other call on a record uses 4 to 9', with 16 'checked after 7'; 'then a step uses 10 to 13', with 17 'checked after 10', 'a settling or end setting 13, a write 14 and 15': whatever it is given.
   -- 6 stands twice, for the boundaries held and those newly given (for a call that is given none, those held)
   pub open-numbers : (s : List ℕ) (z h q m b c : ℕ) (os : Outlets) → numbers (openGrounds s z h q m b c os) ≡ 1 ∷ 2 ∷ 3 ∷ 4 ∷ 5 ∷ 6 ∷ 7 ∷ 16 ∷ []
   pub record-numbers : (s : Reach) (es : List Boundary) → numbers (recordGrounds s es) ≡ 4 ∷ 5 ∷ 6 ∷ 6 ∷ 7 ∷ 16 ∷ 8 ∷ 9 ∷ []
-  pub step-numbers : (s : Reach) (t : ℕ) → numbers (stepGrounds s t) ≡ 4 ∷ 5 ∷ 6 ∷ 6 ∷ 7 ∷ 16 ∷ 8 ∷ 9 ∷ 10 ∷ 11 ∷ 12 ∷ 13 ∷ []
+  pub step-numbers : (s : Reach) (t F : ℕ) → numbers (stepGrounds s t F) ≡ 4 ∷ 5 ∷ 6 ∷ 6 ∷ 7 ∷ 16 ∷ 8 ∷ 9 ∷ 10 ∷ 17 ∷ 11 ∷ 12 ∷ 13 ∷ []
   pub transport-numbers : (s : Reach) (es : List Boundary) → numbers (transportGrounds s es) ≡ 4 ∷ 5 ∷ 6 ∷ 6 ∷ 7 ∷ 16 ∷ 8 ∷ 9 ∷ 13 ∷ []
   pub write-numbers : (s : Reach) (room : ℕ) → numbers (writeGrounds s room) ≡ 4 ∷ 5 ∷ 6 ∷ 6 ∷ 7 ∷ 16 ∷ 8 ∷ 9 ∷ 14 ∷ 15 ∷ []
   -- 4 to 9 are the same tests in each
-  pub step-begins : (s : Reach) (t : ℕ) → take 8 (stepGrounds s t) ≡ recordGrounds s (s .held .boundaries)
+  pub step-begins : (s : Reach) (t F : ℕ) → take 8 (stepGrounds s t F) ≡ recordGrounds s (s .held .boundaries)
   pub transport-begins : (s : Reach) (es : List Boundary) → take 8 (transportGrounds s es) ≡ recordGrounds s es
   pub write-begins : (s : Reach) (room : ℕ) → take 8 (writeGrounds s room) ≡ recordGrounds s (s .held .boundaries)
   -- a step: at the foot it stands none
-  pub step-foot : standing (stepGrounds foot 1_001)
-      ≡ false ∷ false ∷ false ∷ false ∷ false ∷ false ∷ false ∷ false ∷ false ∷ false ∷ false ∷ false ∷ []
-  pub step-4 : step foot 1_001 .refusal ≡ 4
-  pub step-5 : step lengthsMended 1_001 .refusal ≡ 5
-  pub step-6 : step cellLengthMended 1_001 .refusal ≡ 6
-  pub step-7 : step boundaryMended 1_001 .refusal ≡ 7
-  pub step-16 : step depthMended 1_001 .refusal ≡ 16
-  pub step-8 : step outletsMended 1_001 .refusal ≡ 8
-  pub step-9 : step carriedMended 1_001 .refusal ≡ 9
-  pub step-10 : step totalMended 1_001 .refusal ≡ 10
-  pub step-11 : step totalMended 1_000 .refusal ≡ 11
+  pub step-foot : standing (stepGrounds foot 1_001 9)
+      ≡ false ∷ false ∷ false ∷ false ∷ false ∷ false ∷ false ∷ false ∷ false ∷ false ∷ false ∷ false ∷ false ∷ []
+  pub step-4 : step foot 1_001 9 .refusal ≡ 4
+  pub step-5 : step lengthsMended 1_001 9 .refusal ≡ 5
+  pub step-6 : step cellLengthMended 1_001 9 .refusal ≡ 6
+  pub step-7 : step boundaryMended 1_001 9 .refusal ≡ 7
+  pub step-16 : step depthMended 1_001 9 .refusal ≡ 16
+  pub step-8 : step outletsMended 1_001 9 .refusal ≡ 8
+  pub step-9 : step carriedMended 1_001 9 .refusal ≡ 9
+  pub step-10 : step totalMended 1_001 9 .refusal ≡ 10
+  pub step-17 : step totalMended 1_000 9 .refusal ≡ 17
+  pub step-11 : step totalMended 1_000 10 .refusal ≡ 11
   -- 6·(8,000 + 7,671) ≤ 100,000
-  pub step-12 : step totalMended 6 .refusal ≡ 12
-  pub step-13 : step dried 6 .refusal ≡ 13
-  pub step-0 : step emptied 6 .refusal ≡ 0
+  pub step-12 : step totalMended 6 10 .refusal ≡ 12
+  pub step-13 : step dried 6 10 .refusal ≡ 13
+  pub step-0 : step emptied 6 10 .refusal ≡ 0
+  -- 0, 10 and 90 are allowed, 9 and 91 are not
+  pub strickler-none : stricklerFits 0 ≡ true
+  pub strickler-9 : stricklerFits 9 ≡ false
+  pub strickler-10 : stricklerFits 10 ≡ true
+  pub strickler-90 : stricklerFits 90 ≡ true
+  pub strickler-91 : stricklerFits 91 ≡ false
   -- the greatest step: t, CFL, the new depth and the new total are not looked at
   pub greatest-9 : greatest carriedMended .refusal ≡ 9
   pub greatest-0 : greatest totalMended .refusal ≡ 0

@@ -33,10 +33,10 @@ overStep hl hr ql qr = record {
 
 -- the same two sides as cells, and the lake at rest, its surface level
 abbrev pub moving : Outcome
-moving = step (overStep 100_000 20_000 (pos 50_000_000) (negℤ (pos 2_000_000))) 70
+moving = step (overStep 100_000 20_000 (pos 50_000_000) (negℤ (pos 2_000_000))) 70 0
 
 abbrev pub lake : Outcome
-lake = step (overStep 100_000 70_000 (pos 0) (pos 0)) 70
+lake = step (overStep 100_000 70_000 (pos 0) (pos 0)) 70 0
 
 pub record InterfaceWorked : Type 0 where
   -- z* = 30,000: hl* = 100,000 + 0 − 30,000, hr* = 20,000; a depth of 100 below a bed 300 higher shows nothing

@@ -79,12 +79,12 @@ pub record DrawsWorked : Type 0 where
   -- 116,402 by wants 60,000, 0 and 90,000: floors 46,560, 0 and 69,841, and the unit left goes to the first
   pub draws-1 : draws before 100 1 ≡ 46_561 ∷ 0 ∷ 0 ∷ 69_841 ∷ []
   -- the sums are kept: 2,000 and 116,402 have left the second cell, of 125,000
-  pub kept : transports before 100 ≡ false
-  pub first : step before 100 ≡ record { refusal = 0; reach = between }
+  pub kept : transports before 100 0 ≡ false
+  pub first : step before 100 0 ≡ record { refusal = 0; reach = between }
   -- 6,160 carried and 133,448 drawn are more than 125,000, so a transport comes first, with 2,000 carried and 116,402 drawn. Shares of 500,003 in 125,000: 8,000 to the right, then
   -- 186,245 and 279,365 to the outlets, floor(500,003·48,561 / 125,000) and floor(500,003·118,402 / 125,000) less those before
-  pub transported : transports between 100 ≡ true
-  pub second : step between 100 ≡ record {
+  pub transported : transports between 100 0 ≡ true
+  pub second : step between 100 0 ≡ record {
     refusal = 0;
     reach = record {
       bed = pos 0 ∷ pos 20_000 ∷ [];
@@ -101,10 +101,10 @@ pub record DrawsWorked : Type 0 where
     };
   }
   -- with a want of 2,438 alone the 6,160 carried and 118,840 drawn are all of its 125,000: the sums are kept, and what is drawn adds up. With one unit more they are not
-  pub kept-again : transports (wantingLess 2_438) 100 ≡ false
-  pub kept-list : step (wantingLess 2_438) 100 .reach .held .outlets
+  pub kept-again : transports (wantingLess 2_438) 100 0 ≡ false
+  pub kept-list : step (wantingLess 2_438) 100 0 .reach .held .outlets
       ≡ listed (outlet 1 2_438 48_999 48_999 0 ∷ outlet 0 1_000 2_000 2_000 0 ∷ outlet 1 0 0 0 0 ∷ outlet 1 0 69_841 69_841 0 ∷ [])
-  pub not-kept : transports (wantingLess 2_439) 100 ≡ true
+  pub not-kept : transports (wantingLess 2_439) 100 0 ≡ true
   -- an outlet's total counts for ground 13: 10^18 − 46,561 has room for what it draws, one unit more has not
-  pub total-met : step (lending fed (wanting 999_999_999_999_953_439)) 100 .refusal ≡ 0
-  pub total-passed : step (lending fed (wanting 999_999_999_999_953_440)) 100 .refusal ≡ 13
+  pub total-met : step (lending fed (wanting 999_999_999_999_953_439)) 100 0 .refusal ≡ 0
+  pub total-passed : step (lending fed (wanting 999_999_999_999_953_440)) 100 0 .refusal ≡ 13

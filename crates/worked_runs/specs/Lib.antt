@@ -1,4 +1,5 @@
 pub mod Draws
+pub mod Friction
 pub mod Outlets
 pub mod Steps
 pub mod Totals

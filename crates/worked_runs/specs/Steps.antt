@@ -59,12 +59,12 @@ transporting = transportingAfter 0
 
 pub record StepsWorked : Type 0 where
   -- W = 100,000·100·8,000 / 1,000,000 enters at either side, as u is above a
-  pub cut-depths : step dry 100 .reach .depth ≡ 80_000 ∷ 80_000 ∷ []
+  pub cut-depths : step dry 100 0 .reach .depth ≡ 80_000 ∷ 80_000 ∷ []
   -- Q = 10·64,490,456 = 644,904,560, moved to ±8,000·80,000
-  pub cut-discharges : step dry 100 .reach .discharge ≡ pos 640_000_000 ∷ negℤ (pos 640_000_000) ∷ []
+  pub cut-discharges : step dry 100 0 .reach .discharge ≡ pos 640_000_000 ∷ negℤ (pos 640_000_000) ∷ []
   -- the sums are kept: N is 10,452, 17,320 and 1,998. A transport at this step would leave c = N, base depths 310,000 and 60,000, and masses 1,202,009 and 183,997
-  pub kept : transports keeping 100 ≡ false
-  pub kept-step : step keeping 100 ≡ record {
+  pub kept : transports keeping 100 0 ≡ false
+  pub kept-step : step keeping 100 0 ≡ record {
     refusal = 0;
     reach = record {
       bed = pos 0 ∷ pos 20_000 ∷ [];
@@ -82,8 +82,8 @@ pub record StepsWorked : Type 0 where
   }
   -- they are not: a transport with the old c first, then c is this step's N. 133,001·7 came in, floor(900,001·123,001 / 300,000) = 369,003 went over the middle,
   -- floor(500,003·98,001 / 100,000) = 490,007 went out
-  pub transported : transports transporting 100 ≡ true
-  pub transported-step : step transporting 100 ≡ record {
+  pub transported : transports transporting 100 0 ≡ true
+  pub transported-step : step transporting 100 0 ≡ record {
     refusal = 0;
     reach = record {
       bed = pos 0 ∷ pos 20_000 ∷ [];
@@ -100,5 +100,5 @@ pub record StepsWorked : Type 0 where
     };
   }
   -- its mass counts for ground 13: 10^18 − 931,007 has room for it, one grain more has not
-  pub total-met : step (transportingAfter 999_999_999_999_068_993) 100 .refusal ≡ 0
-  pub total-passed : step (transportingAfter 999_999_999_999_068_994) 100 .refusal ≡ 13
+  pub total-met : step (transportingAfter 999_999_999_999_068_993) 100 0 .refusal ≡ 0
+  pub total-passed : step (transportingAfter 999_999_999_999_068_994) 100 0 .refusal ≡ 13

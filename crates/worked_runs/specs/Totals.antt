@@ -55,11 +55,11 @@ entry c = record { free = record { wants = [] }; call = c }
 -- the step of 0 is refused by 10 and the write by 14, since water is carried
 abbrev pub calls : List Entry
 calls =
-    entry (stepCall 100)
-    ∷ entry (stepCall 0)
+    entry (stepCall 100 0)
+    ∷ entry (stepCall 0 0)
     ∷ entry (boundariesCall fedPair)
     ∷ entry greatestCall
-    ∷ entry (stepCall 100)
+    ∷ entry (stepCall 100 0)
     ∷ entry (writeCall 128)
     ∷ entry transportCall
     ∷ []

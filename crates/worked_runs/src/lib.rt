@@ -1,5 +1,6 @@
-// Worked examples of whole steps, of a run, and of document 02's outlets: as in the crate `worked`, apart from it since they take longer to compute.
+// Worked examples of whole steps, of a run, and of document 02's outlets and friction: as in the crate `worked`, apart from it since they take longer to compute.
 ghost use Rattle.worked_runs.specs.Draws.{DrawsWorked};
+ghost use Rattle.worked_runs.specs.Friction.{FrictionWorked};
 ghost use Rattle.worked_runs.specs.Outlets.{OutletsWorked};
 ghost use Rattle.worked_runs.specs.Steps.{StepsWorked};
 ghost use Rattle.worked_runs.specs.Totals.{TotalsWorked};
@@ -18,4 +19,8 @@ pub fn draws_worked()
 
 pub fn totals_worked()
     ensures { λ _. ⌜ TotalsWorked ⌝ }
+{}
+
+pub fn friction_worked()
+    ensures { λ _. ⌜ FrictionWorked ⌝ }
 {}

@@ -16,3 +16,6 @@ pub const WANT_MOST: u64 = 4_000_000;
 pub const VELOCITY_MOST: u64 = 8_000;
 /// Micrograms per litre: a mass is at most this times its base depth.
 pub const CONCENTRATION_MOST: u64 = 500_000;
+/// m^(1/3)/s, of a bed with friction; 0 is none.
+pub const STRICKLER_LEAST: u64 = jemmyfern::STRICKLER_LEAST;
+pub const STRICKLER_MOST: u64 = jemmyfern::STRICKLER_MOST;

@@ -27,18 +27,20 @@ pub struct Stopped {
 }
 
 /// Steps for `time` ms and transports. The steps are of `step` ms, or the greatest that the record allows at each; the last one is cut to end the
-/// run exactly. `progress` is told what has been made after each step.
+/// run exactly. The bed has this Strickler coefficient, or no friction where it is 0. `progress` is told what has been made after each step.
 pub fn run(
     record: &mut Record,
     time: u64,
     step: Option<u64>,
+    strickler: u64,
     mut progress: impl FnMut(&Made),
 ) -> Result<Made, Stopped> {
     record.with(|reach| {
         let mut made = Made::default();
         while made.time < time {
             let t = next_step(reach, step, made)?.min(time - made.time);
-            let stepped = reach.step(t).map_err(|refusal| Stopped {
+            let stepped = reach.step_with_friction(t, strickler);
+            let stepped = stepped.map_err(|refusal| Stopped {
                 refusal,
                 made,
                 step: t,
@@ -56,7 +58,8 @@ pub fn run(
 }
 
 /// The cell that would be deepest after a step of `step` ms, which was refused. What crosses its interfaces grows in proportion to the time, and
-/// what its outlets draw does not, so a shorter step that is accepted tells it; None if even 1 ms is refused.
+/// what its outlets draw does not, so a shorter step that is accepted tells it; None if even 1 ms is refused. Friction has no part in the depths of
+/// a step.
 pub fn fills_most(record: &Record, step: u64) -> Option<usize> {
     let mut shorter = successors(Some(step / 2), |t| Some(t / 2)).take_while(|&t| t > 0);
     let (t, after) = shorter.find_map(|t| {

@@ -1,9 +1,9 @@
 //! A controller's loop: opens a sheet, follows an hour of canal time with the greatest steps, changes the dose at the head twice, prints what
 //! passed the boundaries, writes the sheet and opens it again. What it prints keeps the paper's words: a settling is a transport, nutrient is
 //! mass. With WANT two outlets, a third and two thirds down the reach, each want so many micrometres per step until the second dose, when the
-//! first of them is closed.
+//! first of them is closed. With STRICKLER the bed has friction of that coefficient, 10 to 90; 0 is none.
 //!
-//!     controller IN.sheet OUT.sheet [WANT]
+//!     controller IN.sheet OUT.sheet [WANT [STRICKLER]]
 
 use jemmyfern::{cells_in, sheet_size, Boundary, Columns, Outlet, Reach, Totals, CELLS_MOST};
 use std::error::Error;
@@ -78,8 +78,8 @@ fn print_totals(side: &str, t: &Totals) {
     );
 }
 
-/// An hour of canal time; tells the steps and the transports.
-fn follow(reach: &mut Reach) -> Result<(u64, u64), Box<dyn Error>> {
+/// An hour of canal time over a bed with this Strickler coefficient; tells the steps and the transports.
+fn follow(reach: &mut Reach, strickler: u64) -> Result<(u64, u64), Box<dyn Error>> {
     let mut doses = DOSES.iter().peekable();
     let (mut elapsed, mut steps, mut transports) = (0, 0, 0);
     while elapsed < HOUR_MS {
@@ -91,7 +91,7 @@ fn follow(reach: &mut Reach) -> Result<(u64, u64), Box<dyn Error>> {
             }
         }
         let t = reach.greatest_step()?.time.min(HOUR_MS - elapsed);
-        transports += u64::from(reach.step(t)?.transported);
+        transports += u64::from(reach.step_with_friction(t, strickler)?.transported);
         elapsed += t;
         steps += 1;
     }
@@ -115,13 +115,13 @@ fn outlets(n: u64, want: Option<u64>) -> Vec<Outlet> {
     })
 }
 
-fn run(from: &str, to: &str, want: Option<u64>) -> Result<(), Box<dyn Error>> {
+fn run(from: &str, to: &str, want: Option<u64>, strickler: u64) -> Result<(), Box<dyn Error>> {
     let sheet = std::fs::read(from).map_err(|error| NoFile(format!("{from}: {error}")))?;
     let n = cells_in(&sheet);
     let (mut memory, mut outlets) = (Memory::new(), outlets(n as u64, want));
     let mut reach = Reach::open(&sheet, memory.lend(n), &mut outlets)?;
     println!("cells {} of {} mm", reach.cells(), reach.cell_length);
-    let (steps, transports) = follow(&mut reach)?;
+    let (steps, transports) = follow(&mut reach, strickler)?;
     println!("steps {steps} settlings {transports}");
     print_totals("left", &reach.ledger.left);
     print_totals("right", &reach.ledger.right);
@@ -141,18 +141,25 @@ fn run(from: &str, to: &str, want: Option<u64>) -> Result<(), Box<dyn Error>> {
     Ok(())
 }
 
+/// The two files, what the outlets want, and the Strickler coefficient.
+fn parsed(arguments: &[String]) -> Option<(&str, &str, Option<u64>, u64)> {
+    let (from, to, more) = match arguments {
+        [from, to, more @ ..] if more.len() <= 2 => (from, to, more),
+        _ => return None,
+    };
+    let numbers: Result<Vec<u64>, _> = more.iter().map(|number| number.parse()).collect();
+    let numbers = numbers.ok()?;
+    let strickler = numbers.get(1).copied().unwrap_or(0);
+    Some((from, to, numbers.first().copied(), strickler))
+}
+
 fn main() -> ExitCode {
     let arguments: Vec<String> = std::env::args().skip(1).collect();
-    let parsed = match &arguments[..] {
-        [from, to] => Some((from, to, None)),
-        [from, to, want] => want.parse().ok().map(|want| (from, to, Some(want))),
-        _ => None,
-    };
-    let Some((from, to, want)) = parsed else {
-        eprintln!("usage: controller IN.sheet OUT.sheet [WANT]");
+    let Some((from, to, want, strickler)) = parsed(&arguments) else {
+        eprintln!("usage: controller IN.sheet OUT.sheet [WANT [STRICKLER]]");
         return ExitCode::from(2);
     };
-    match run(from, to, want) {
+    match run(from, to, want, strickler) {
         Ok(()) => ExitCode::SUCCESS,
         Err(error) => {
             eprintln!("{error}");

@@ -1,5 +1,5 @@
-/* Every call of include/jemmyfern.h, and the layout of every type, printed. The test beside it prints the same through Rust's declarations. The
- * calls are made without outlets, with three, and with three of which the last is not in the reach. */
+/* Every call of include/jemmyfern.h, and every limit, every refusal and the layout of every type, printed. The test beside it prints the same through
+ * Rust's declarations. The calls are made without outlets, with three, and with three of which the last is not in the reach. */
 #include "jemmyfern.h"
 
 #include <inttypes.h>
@@ -9,6 +9,8 @@
 #define CELLS JEMMYFERN_CELLS_MOST
 #define LAYOUT(type, field) printf(#type " " #field " %zu\n", offsetof(jemmyfern_##type, field))
 #define SIZE(type) printf(#type " %zu %zu\n", sizeof(jemmyfern_##type), _Alignof(jemmyfern_##type))
+#define LIMIT(name) printf(#name " %" PRIu64 "\n", (uint64_t)JEMMYFERN_##name)
+#define REFUSAL(name) printf("refusal " #name " %d\n", JEMMYFERN_##name)
 #define COLUMNS bed, n, depth, n, discharge, n, mass, n, base, n, carried, n + 1, outlets, count
 
 static size_t n, count;
@@ -16,6 +18,45 @@ static jemmyfern_outlet *outlets, list[3];
 static int64_t bed[CELLS], discharge[CELLS], carried[CELLS + 1];
 static uint64_t depth[CELLS], mass[CELLS], base[CELLS];
 static uint8_t sheet[JEMMYFERN_SHEET_SIZE(CELLS)], out[JEMMYFERN_SHEET_SIZE(CELLS) + 10];
+
+static void limits(void)
+{
+    LIMIT(CELLS_MOST);
+    LIMIT(DEPTH_MOST);
+    LIMIT(VELOCITY_MOST);
+    LIMIT(BED_MOST);
+    LIMIT(CONCENTRATION_MOST);
+    LIMIT(CELL_LENGTH_LEAST);
+    LIMIT(CELL_LENGTH_MOST);
+    LIMIT(TIME_STEP_MOST);
+    LIMIT(STRICKLER_LEAST);
+    LIMIT(STRICKLER_MOST);
+    LIMIT(OUTLETS_MOST);
+    LIMIT(WANT_MOST);
+    LIMIT(TOTAL_MOST);
+}
+
+/* By number */
+static void refusals(void)
+{
+    REFUSAL(EDITION);
+    REFUSAL(SIZE);
+    REFUSAL(LAYOUT);
+    REFUSAL(LENGTHS);
+    REFUSAL(CELL_LENGTH);
+    REFUSAL(BOUNDARIES);
+    REFUSAL(VALUES);
+    REFUSAL(CARRIED);
+    REFUSAL(LEDGER);
+    REFUSAL(TIME_STEP);
+    REFUSAL(CFL);
+    REFUSAL(DEPTH);
+    REFUSAL(TOTAL);
+    REFUSAL(NOT_TRANSPORTED);
+    REFUSAL(SHORT_OUTPUT);
+    REFUSAL(OUTLETS);
+    REFUSAL(STRICKLER);
+}
 
 static void layouts(void)
 {
@@ -100,11 +141,13 @@ static void calls(size_t length)
 
     jemmyfern_greatest g = jemmyfern_greatest_step(COLUMNS, x, held, ledger);
     print_answer("greatest", g.refusal, &g.boundaries, &g.ledger, g.time, g.place);
-    const uint64_t times[] = {g.time, 0, g.time, g.time + 1, 1001};
-    for (size_t i = 0; i < sizeof times / sizeof *times; i++) {
+    const struct {
+        uint64_t t, strickler;
+    } steps[] = {{g.time, 0}, {0, 9}, {g.time / 2, 30}, {g.time + 1, 10}, {g.time + 1, 91}, {1001, 0}};
+    for (size_t i = 0; i < sizeof steps / sizeof *steps; i++) {
         if (count > 0)
             outlets[0].want += 1000;
-        jemmyfern_stepped s = jemmyfern_step(COLUMNS, x, held, ledger, times[i]);
+        jemmyfern_stepped s = jemmyfern_step(COLUMNS, x, held, ledger, steps[i].t, steps[i].strickler);
         print_answer("step", s.refusal, &s.boundaries, &s.ledger, s.transported, 0);
         ledger = s.ledger;
     }
@@ -115,7 +158,7 @@ static void calls(size_t length)
     print_answer("set", a.refusal, &a.boundaries, &a.ledger, 0, 0);
     held = a.boundaries;
     ledger = a.ledger;
-    jemmyfern_stepped s = jemmyfern_step(COLUMNS, x, held, ledger, 1);
+    jemmyfern_stepped s = jemmyfern_step(COLUMNS, x, held, ledger, 1, 90);
     print_answer("step", s.refusal, &s.boundaries, &s.ledger, s.transported, 0);
     ledger = s.ledger;
     a = jemmyfern_transport(COLUMNS, x, held, ledger);
@@ -140,6 +183,8 @@ static void lend(size_t entries, uint64_t last)
 
 int main(int argc, char **argv)
 {
+    limits();
+    refusals();
     layouts();
     if (argc != 2)
         return 2;

@@ -1,10 +1,11 @@
-//! The C header against the declarations in `raw`: the layout of every type and every call, through both.
+//! The C header against the crate's constants and the declarations in `raw`: every limit, every refusal, the layout of every type and every call,
+//! through both.
 
 #[path = "../tests/cc/mod.rs"]
 mod cc;
 
 use crate::raw::{self, Answer, Boundaries, Greatest, Opened, Stepped};
-use crate::{cells_in, sheet_size, Boundary, Ledger, Outlet, Totals};
+use crate::{cells_in, sheet_size, Boundary, Ledger, Outlet, Refusal, Totals};
 use std::fmt::Write;
 use std::mem::{align_of, offset_of, size_of};
 use std::process::Command;
@@ -14,6 +15,46 @@ macro_rules! layout {
         writeln!($text, "{} {} {}", $name, size_of::<$type>(), align_of::<$type>()).unwrap();
         $(writeln!($text, "{} {} {}", $name, stringify!($field), offset_of!($type, $field)).unwrap();)*
     };
+}
+
+macro_rules! limits {
+    ($($name:ident),*) => {
+        [$(format!("{} {}\n", stringify!($name), crate::$name)),*].concat()
+    };
+}
+
+fn limits() -> String {
+    limits!(
+        CELLS_MOST,
+        DEPTH_MOST,
+        VELOCITY_MOST,
+        BED_MOST,
+        CONCENTRATION_MOST,
+        CELL_LENGTH_LEAST,
+        CELL_LENGTH_MOST,
+        TIME_STEP_MOST,
+        STRICKLER_LEAST,
+        STRICKLER_MOST,
+        OUTLETS_MOST,
+        WANT_MOST,
+        TOTAL_MOST
+    )
+}
+
+/// The refusals by number, named as C names them.
+fn refusals() -> String {
+    let mut text = String::new();
+    for refusal in Refusal::ALL {
+        text.push_str("refusal");
+        for letter in format!("{refusal:?}").chars() {
+            if letter.is_uppercase() {
+                text.push(if text.ends_with("refusal") { ' ' } else { '_' });
+            }
+            text.push(letter.to_ascii_uppercase());
+        }
+        writeln!(text, " {}", refusal.number()).unwrap();
+    }
+    text
 }
 
 fn layouts() -> String {
@@ -151,8 +192,9 @@ impl Record {
         t.push('\n');
     }
 
-    fn step(&mut self, x: u64, held: Boundaries, ledger: Ledger, t: u64) -> Ledger {
-        let s = call!(jemmyfern_step, self, x, held, ledger, t);
+    fn step(&mut self, x: u64, held: Boundaries, ledger: Ledger, step: (u64, u64)) -> Ledger {
+        let (t, strickler) = step;
+        let s = call!(jemmyfern_step, self, x, held, ledger, t, strickler);
         self.print(
             "step",
             s.refusal,
@@ -216,11 +258,19 @@ fn calls(sheet: &[u8], outlets: &[Outlet]) -> String {
         &g.ledger,
         [g.time, g.place as u64],
     );
-    for t in [g.time, 0, g.time, g.time + 1, 1_001] {
+    // time and Strickler coefficient; where both are wrong, the time comes first, and CFL last
+    for step in [
+        (g.time, 0),
+        (0, 9),
+        (g.time / 2, 30),
+        (g.time + 1, 10),
+        (g.time + 1, 91),
+        (1_001, 0),
+    ] {
         if let Some(first) = r.outlets.first_mut() {
             first.want += 1_000;
         }
-        ledger = r.step(x, held, ledger, t);
+        ledger = r.step(x, held, ledger, step);
     }
     r.write(x, held, ledger, sheet_size(n));
     let turned = Boundaries {
@@ -229,7 +279,7 @@ fn calls(sheet: &[u8], outlets: &[Outlet]) -> String {
     let a = call!(jemmyfern_set_boundaries, r, x, held, ledger, turned);
     r.print("set", a.refusal, &a.boundaries, &a.ledger, [0, 0]);
     held.boundaries = a.boundaries;
-    ledger = r.step(x, held, a.ledger, 1);
+    ledger = r.step(x, held, a.ledger, (1, 90));
     let a = call!(jemmyfern_transport, r, x, held, ledger);
     r.print("transport", a.refusal, &a.boundaries, &a.ledger, [0, 0]);
     r.write(x, held, a.ledger, sheet_size(n) - 1);
@@ -253,7 +303,7 @@ fn lists(n: usize) -> [Vec<Outlet>; 3] {
     [vec![], lent(0).to_vec(), lent(n as u64).to_vec()]
 }
 
-/// Sheets that open, two of them with a fed and an open boundary, and sheets that do not.
+/// Sheets that open, some of them with a fed and an open boundary, one with cells so short that CFL sets the greatest step, and sheets that do not.
 fn sheets() -> Vec<Vec<u8>> {
     let example = std::fs::read(cc::kept("examples/reach.sheet")).expect("the example's sheet");
     let mut list = vec![example.clone(), example[..79].to_vec(), Vec::new()];
@@ -263,6 +313,7 @@ fn sheets() -> Vec<Vec<u8>> {
         (8, 0),
         (8, 41),
         (12, 99),
+        (13, 1),
         (16, 79),
         (32, 3),
         (56, 0),
@@ -276,11 +327,17 @@ fn sheets() -> Vec<Vec<u8>> {
     list
 }
 
+/// What the steps answered.
+fn steps(text: &str) -> Vec<&str> {
+    let steps = text.lines().filter_map(|line| line.strip_prefix("step "));
+    steps.filter_map(|line| line.split(' ').next()).collect()
+}
+
 #[test]
 fn the_header_and_the_declarations_agree() {
     let folder = cc::folder("header");
     let program = cc::compiled("rust/jemmyfern/src/header.c", "c11", &folder);
-    let (mut opened, mut drawn, mut not_in_reach) = (0, 0, 0);
+    let (mut opened, mut drawn, mut not_in_reach, mut in_order) = (0, 0, 0, 0);
     for sheet in sheets() {
         let file = folder.join("a.sheet");
         std::fs::write(&file, &sheet).unwrap();
@@ -288,12 +345,15 @@ fn the_header_and_the_declarations_agree() {
         assert!(output.status.success());
         let text = String::from_utf8(output.stdout).unwrap();
         let [none, three, wrong] = lists(cells_in(&sheet)).map(|list| calls(&sheet, &list));
-        assert_eq!(text, layouts() + &none + &three + &wrong);
+        let fixed = limits() + &refusals() + &layouts();
+        assert_eq!(text, fixed + &none + &three + &wrong);
         opened += usize::from(none.starts_with("open 0 "));
+        in_order += usize::from(steps(&none).starts_with(&["0", "10", "0", "11", "17", "10"]));
         drawn += usize::from(three.starts_with("open 0 ") && three != none);
         not_in_reach += usize::from(wrong.starts_with("open 16 "));
     }
     assert!(opened >= 2, "{opened}");
+    assert!(in_order >= 1, "{in_order}");
     assert_eq!((drawn, not_in_reach), (opened, opened));
     std::fs::remove_dir_all(&folder).unwrap();
 }

@@ -6,7 +6,8 @@
 //! has another, it stands once in quotes at the definition.
 //!
 //! Units: bed level and depth in micrometres, discharge = depth times velocity in micrometres times mm/s, cell length in mm, time step in ms,
-//! concentration in micrograms per litre, mass in grains (one micrometre of depth at concentration 1).
+//! concentration in micrograms per litre, mass in grains (one micrometre of depth at concentration 1), Strickler's coefficient of a bed with
+//! friction in m^(1/3)/s.
 //!
 //! ```no_run
 //! use jemmyfern::{Columns, Outlet, Reach};
@@ -25,8 +26,10 @@
 //! let mut outlets = [Outlet::new(20, 500)]; // 500 micrometres per step from the cell in the middle
 //! let mut reach = Reach::open(&sheet, columns, &mut outlets)?; // a sheet of 40 cells
 //! let t = reach.greatest_step()?.time;
-//! reach.step(t)?;
+//! reach.step(t)?; // without friction
 //! reach.set_want(0, 0); // it is closed again
+//! let t = reach.greatest_step()?.time;
+//! reach.step_with_friction(t, 35)?; // a bed of earth
 //! reach.transport()?;
 //! println!("{:?} {:?}", reach.ledger, reach.outlets());
 //! # Ok(())
@@ -62,6 +65,10 @@ pub const CELL_LENGTH_MOST: u64 = 100_000;
 
 /// The greatest time step, ms.
 pub const TIME_STEP_MOST: u64 = 1_000;
+
+/// The least and the greatest Strickler coefficient of a bed with friction, m^(1/3)/s; without friction it is 0.
+pub const STRICKLER_LEAST: u64 = 10;
+pub const STRICKLER_MOST: u64 = 90;
 
 /// The greatest number of outlets.
 pub const OUTLETS_MOST: usize = 32;
@@ -187,7 +194,7 @@ impl Outlet {
 }
 
 /// Why a call was refused: the first of the paper's grounds, in its order, that the call does not stand. A refused call has changed nothing.
-/// The order is that of the numbers, but 16 comes after 7.
+/// The order is that of the numbers, but 16 comes after 7 and 17 after 10.
 #[derive(Clone, Copy, Debug, PartialEq, Eq, PartialOrd, Ord, Hash)]
 #[repr(u32)]
 pub enum Refusal {
@@ -223,10 +230,12 @@ pub enum Refusal {
     ShortOutput = 15,
     /// There are over 32 outlets, an outlet's cell is not in the reach, or its want is above 4,000,000. Comes after 7.
     Outlets = 16,
+    /// The Strickler coefficient is neither 0 nor 10..90. Comes after 10.
+    Strickler = 17,
 }
 
 impl Refusal {
-    pub const ALL: [Refusal; 16] = [
+    pub const ALL: [Refusal; 17] = [
         Refusal::Edition,
         Refusal::Size,
         Refusal::Layout,
@@ -243,6 +252,7 @@ impl Refusal {
         Refusal::NotTransported,
         Refusal::ShortOutput,
         Refusal::Outlets,
+        Refusal::Strickler,
     ];
 
     /// The paper's number.
@@ -269,6 +279,7 @@ impl Refusal {
             Refusal::NotTransported => "some carried or drawn water is not 0; transport before writing",
             Refusal::ShortOutput => "the output is shorter than the sheet",
             Refusal::Outlets => "there are over 32 outlets, or an outlet's cell is not in the reach, or its want is above 4000000",
+            Refusal::Strickler => "the Strickler coefficient is neither 0 nor 10..90",
         }
     }
 
@@ -334,7 +345,7 @@ pub struct Reach<'a> {
     pub ledger: Ledger,
 }
 
-/// The library's numbers are 0 to 16, and that is proved.
+/// The library's numbers are 0 to 17, and that is proved.
 fn refused(number: u32) -> Result<(), Refusal> {
     match number {
         0 => Ok(()),
@@ -418,9 +429,20 @@ impl<'a> Reach<'a> {
         self.outlets[outlet].want = want;
     }
 
-    /// One water step of `t` ms, in which outlets draw, with a transport before it where the paper's test asks for one.
+    /// One water step of `t` ms without friction, in which outlets draw, with a transport before it where the paper's test asks for one.
     pub fn step(&mut self, t: u64) -> Result<Stepped, Refusal> {
-        let a = call!(jemmyfern_step, &mut *self, as_mut_ptr, as_mut_ptr, t);
+        self.step_with_friction(t, 0)
+    }
+
+    /// A step over a bed with this Strickler coefficient F, 10..90 m^(1/3)/s, or 0 for no friction. Great is smooth: concrete has about 60 to 80,
+    /// earth about 30 to 40, a bed full of weeds about 15 to 25.
+    ///
+    /// The new discharge of a cell is divided by `1 + g t |u| / (F² h^(4/3))` and cut towards zero, with the velocity `u` before the step and the
+    /// depth `h` after it, down to whole centimetres. Under 1 cm of depth nothing keeps moving. Friction touches discharges alone, and the greatest
+    /// step does not ask for it.
+    pub fn step_with_friction(&mut self, t: u64, strickler: u64) -> Result<Stepped, Refusal> {
+        let reach = &mut *self;
+        let a = call!(jemmyfern_step, reach, as_mut_ptr, as_mut_ptr, t, strickler);
         refused(a.refusal)?;
         (self.boundaries, self.ledger) = (a.boundaries, a.ledger);
         Ok(Stepped {

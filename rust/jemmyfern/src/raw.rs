@@ -78,6 +78,7 @@ extern "C" {
         boundaries: Boundaries,
         ledger: Ledger,
         t: u64,
+        strickler: u64,
     ) -> Stepped;
     pub fn jemmyfern_transport(
         bed: *const i64,

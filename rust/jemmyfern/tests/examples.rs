@@ -11,7 +11,7 @@ use std::process::Command;
 const HOUR_MS: u64 = 3_600_000;
 
 /// The hour of examples/controller.c on the second implementation, which has the paper's words: the text and the sheet.
-fn expected(sheet: &[u8], cells: usize, want: Option<u64>) -> (String, Vec<u8>) {
+fn expected(sheet: &[u8], cells: usize, want: Option<u64>, strickler: u64) -> (String, Vec<u8>) {
     let mut c = Columns::of_cells(cells);
     let mut outlets = want.map_or(vec![], |want| {
         [cells / 3, 2 * cells / 3]
@@ -43,7 +43,7 @@ fn expected(sheet: &[u8], cells: usize, want: Option<u64>) -> (String, Vec<u8>) 
         }
         let most = reference::greatest_step(&c, &outlets, x, boundaries, ledger).t;
         let t = most.min(HOUR_MS - elapsed);
-        let a = reference::step(&mut c, &mut outlets, x, boundaries, ledger, t);
+        let a = reference::step(&mut c, &mut outlets, x, boundaries, ledger, t, strickler);
         assert_eq!(a.refusal, 0);
         ledger = a.book;
         transports += u32::from(a.settled);
@@ -78,7 +78,11 @@ fn expected(sheet: &[u8], cells: usize, want: Option<u64>) -> (String, Vec<u8>) 
             ..
         } = o;
         writeln!(text, "outlet at {cell} water {water} nutrient {nutrient}").unwrap();
-        assert!(*water > 0 && *nutrient > 0, "{o:?}");
+        assert_eq!(
+            (*water > 0, *nutrient > 0),
+            (want > Some(0), want > Some(0)),
+            "{o:?}"
+        );
     }
     writeln!(text, "written and opened again: {} bytes", out.len()).unwrap();
     (text, out)
@@ -98,25 +102,43 @@ fn both_controllers_follow_the_hour() {
     let in_c = cc::compiled("examples/controller.c", "c11", &folder);
     for program in [in_c, in_rust()] {
         let out = folder.join("out.sheet");
-        let run = |want: &[&str]| {
+        let run = |more: &[&str]| {
             let mut command = Command::new(&program);
-            command.arg(&file).arg(&out).args(want).output().unwrap()
+            command.arg(&file).arg(&out).args(more).output().unwrap()
         };
-        // without outlets, with modest ones, and with such as take all that their cells can give
-        for want in [None, Some(300), Some(4_000_000)] {
-            let (text, written) = expected(&sheet, 40, want);
-            let want = want.map(|want: u64| want.to_string());
-            let answer = run(want.as_deref().as_slice());
+        // without outlets, with modest ones, and with such as take all that their cells can give; then over a bed of earth and one of weeds
+        let cases: [(&[&str], Option<u64>, u64); 6] = [
+            (&[], None, 0),
+            (&["300"], Some(300), 0),
+            (&["4000000"], Some(4_000_000), 0),
+            (&["300", "0"], Some(300), 0),
+            (&["300", "35"], Some(300), 35),
+            (&["0", "20"], Some(0), 20),
+        ];
+        let mut sheets = Vec::new();
+        for (more, want, strickler) in cases {
+            let (text, written) = expected(&sheet, 40, want, strickler);
+            let answer = run(more);
             assert!(answer.status.success(), "{answer:?}");
             assert_eq!(String::from_utf8(answer.stdout).unwrap(), text);
             assert_eq!(std::fs::read(&out).unwrap(), written);
+            sheets.push(written);
         }
-        // a want too great, and one that is no number
-        let great = run(&["4000001"]);
-        assert_eq!(great.status.code(), Some(1), "{great:?}");
-        let words = String::from_utf8(great.stderr).unwrap();
-        assert!(words.contains("refused 16"), "{words}");
-        assert_eq!(run(&["much"]).status.code(), Some(2));
+        assert!(sheets[1] == sheets[3] && sheets[3] != sheets[4] && sheets[0] != sheets[5]);
+        // a want too great, a coefficient just beyond its limits, and what is no number
+        for (more, number) in [
+            (&["4000001"][..], "refused 16"),
+            (&["300", "9"], "refused 17"),
+            (&["300", "91"], "refused 17"),
+        ] {
+            let refused = run(more);
+            assert_eq!(refused.status.code(), Some(1), "{refused:?}");
+            let words = String::from_utf8(refused.stderr).unwrap();
+            assert!(words.contains(number), "{words}");
+        }
+        for more in [&["much"][..], &["300", "rough"], &["300", "30", "3"]] {
+            assert_eq!(run(more).status.code(), Some(2));
+        }
         // a sheet that is refused, a file that is not there, no argument
         std::fs::write(folder.join("bad.sheet"), [0; 80]).unwrap();
         let bad = Command::new(&program)

@@ -1,7 +1,8 @@
 //! A call made on both implementations, and the records to make it on: sound, with a full ledger, and broken in each way.
 
 use crate::calls;
-use reference::random::{damage_record, totals_mut, Random, Record};
+use reference::friction::allowed;
+use reference::random::{damage_record, strickler, totals_mut, Random, Record};
 use reference::record::{Answer, Book, Columns, End, DEEPEST, MOST_TOTAL};
 use reference::{GreatestAnswer, OpenAnswer, Outlet, StepAnswer};
 
@@ -11,7 +12,8 @@ pub enum Call {
     Transport,
     SetBoundaries([End; 2]),
     Greatest,
-    Step(u64),
+    /// t and Strickler's coefficient
+    Step(u64, u64),
 }
 
 /// Every answer in one form; what a call does not answer is zero.
@@ -67,7 +69,7 @@ impl Call {
             Call::Transport => "transport",
             Call::SetBoundaries(_) => "setting of boundaries",
             Call::Greatest => "greatest step",
-            Call::Step(_) => "step",
+            Call::Step(..) => "step",
         }
     }
 
@@ -77,7 +79,7 @@ impl Call {
             Call::Transport => calls::transport(r).into(),
             Call::SetBoundaries(new) => calls::set_boundaries(r, new).into(),
             Call::Greatest => calls::greatest_step(r).into(),
-            Call::Step(t) => calls::step(r, t).into(),
+            Call::Step(t, f) => calls::step(r, t, f).into(),
         }
     }
 
@@ -89,7 +91,7 @@ impl Call {
             Call::Transport => reference::settle(c, outlets, x, ends, book).into(),
             Call::SetBoundaries(new) => reference::set_ends(c, outlets, x, ends, book, new).into(),
             Call::Greatest => reference::greatest_step(c, outlets, x, ends, book).into(),
-            Call::Step(t) => reference::step(c, outlets, x, ends, book, t).into(),
+            Call::Step(t, f) => reference::step(c, outlets, x, ends, book, t, f).into(),
         }
     }
 }
@@ -227,6 +229,16 @@ pub fn greatest(record: &Record) -> u64 {
         book,
     } = record;
     reference::greatest_step(columns, outlets, *x, *ends, *book).t
+}
+
+/// A coefficient that a step takes.
+pub fn allowed_strickler(r: &mut Random) -> u64 {
+    loop {
+        let f = strickler(r);
+        if allowed(f) {
+            return f;
+        }
+    }
 }
 
 /// Every total of the ledger at its limit: whatever a call adds is ground 13.

@@ -176,6 +176,7 @@ extern "C" {
         held: Boundaries,
         ledger: Ledger,
         t: u64,
+        strickler: u64,
     ) -> RawStepped;
     fn jemmyfern_write(
         z: *const i64,
@@ -391,9 +392,18 @@ pub fn greatest_step(r: &Record) -> GreatestAnswer {
     }
 }
 
-pub fn step(r: &mut Record, t: u64) -> StepAnswer {
+/// A step of t with Strickler's coefficient, 0 for no friction.
+pub fn step(r: &mut Record, t: u64, strickler: u64) -> StepAnswer {
     let mut list = lent(&r.outlets);
-    let s = call!(jemmyfern_step, &mut *r, list, as_mut_ptr, as_mut_ptr, t);
+    let s = call!(
+        jemmyfern_step,
+        &mut *r,
+        list,
+        as_mut_ptr,
+        as_mut_ptr,
+        t,
+        strickler
+    );
     take_back(&mut r.outlets, &list);
     StepAnswer {
         refusal: s.refusal,

@@ -2,22 +2,23 @@
 //! output and every answer. About a third of the calls are refused, openings in between among them. The lists have 0 to 32 outlets, wants of each
 //! call, and openings that are lent lists of their own.
 
+use agreement::both::allowed_strickler;
 use agreement::calls;
 use agreement::sheets::{damages, lent, Opening};
 use reference::outlet::MOST_OUTLETS;
 use reference::random::{
-    cell_count, choose_wants, damage_end, damage_list, end, outlets_for_opening, Random, Record,
-    COLUMN_ORDERS,
+    cell_count, choose_wants, damage_end, damage_list, end, outlets_for_opening, strickler, Random,
+    Record, COLUMN_ORDERS,
 };
 use reference::record::{Columns, End, DEEPEST, MOST_CELLS};
 use reference::sheet::sheet_length;
 use reference::Outlet;
 use std::collections::BTreeMap;
 
-/// A call with its free arguments; a write's is the room of its output.
+/// A call with its free arguments: a step's are t and Strickler's coefficient, a write's is the room of its output.
 #[derive(Clone, Debug)]
 enum Call {
-    Step(u64),
+    Step(u64, u64),
     Transport,
     SetBoundaries([End; 2]),
     Greatest,
@@ -58,7 +59,7 @@ impl Script {
         let mut words = [0; 206];
         words[13..45].copy_from_slice(&entry.wants);
         match &entry.call {
-            Call::Step(t) => words[1] = *t,
+            Call::Step(t, f) => words[1..3].copy_from_slice(&[*t, *f]),
             Call::Transport => words[0] = 1,
             Call::SetBoundaries(new) => {
                 words[0] = 2;
@@ -120,8 +121,8 @@ impl Theirs {
         let (c, outlets) = (&mut r.columns, &mut r.outlets);
         let (x, ends, book) = (r.x, r.ends, r.book);
         match &entry.call {
-            Call::Step(t) => {
-                let a = reference::step(c, outlets, x, ends, book, *t);
+            Call::Step(t, f) => {
+                let a = reference::step(c, outlets, x, ends, book, *t, *f);
                 (r.ends, r.book) = (a.ends, a.book);
                 [a.refusal.into(), a.settled.into(), 0, 0]
             }
@@ -210,8 +211,8 @@ fn good(r: &mut Random, record: &Record, n: usize) -> Entry {
         4 | 5 => Call::Greatest,
         6 if r.one_in(8) => reopen(r, n),
         7 | 8 if !carrying && !drawing => Call::Write(sheet_length(n) + r.below(90) as usize),
-        9 => Call::Step(1 + r.below(most)),
-        _ => Call::Step(most),
+        9 => Call::Step(1 + r.below(most), allowed_strickler(r)),
+        _ => Call::Step(most, allowed_strickler(r)),
     };
     if r.one_in(2) {
         choose_wants(r, &mut record, most);
@@ -226,7 +227,7 @@ fn good(r: &mut Random, record: &Record, n: usize) -> Entry {
 fn bad(r: &mut Random, record: &Record, n: usize) -> Entry {
     let carrying = record.columns.carried.iter().any(|&c| c != 0);
     let mut wants = wants_of(r, record);
-    let call = match r.below(8) {
+    let call = match r.below(9) {
         0 => match reopen(r, n) {
             Call::Open(_, list) => Call::Open(bad_sheet(r, n), list),
             call => call,
@@ -244,7 +245,7 @@ fn bad(r: &mut Random, record: &Record, n: usize) -> Entry {
         }
         2 => Call::Write(r.below(sheet_length(n) as u64) as usize),
         3 if carrying => Call::Write(sheet_length(n)),
-        4 => Call::Step(1_000 - r.below(2)),
+        4 => Call::Step(1_000 - r.below(2), allowed_strickler(r)),
         5 => {
             let mut call = reopen(r, n);
             if let Call::Open(_, list) = &mut call {
@@ -260,10 +261,19 @@ fn bad(r: &mut Random, record: &Record, n: usize) -> Entry {
                 1 => Call::SetBoundaries([end(r), end(r)]),
                 2 => Call::Greatest,
                 3 => Call::Write(sheet_length(n)),
-                _ => Call::Step(1),
+                _ => Call::Step(1, strickler(r)),
             }
         }
-        _ => Call::Step(r.pick(&[0, 1_001, 1 << 32, (1 << 32) + 1, u64::MAX])),
+        7 => {
+            // the last two would be sound if they were cut to 32 bits
+            let wide = r.pick(&[1 << 63, u64::MAX, 1 << 32, (1 << 32) + 35]);
+            let (below, above) = (1 + r.below(9), 91 + r.below(1_000));
+            Call::Step(1 + r.below(1_000), r.pick(&[below, above, 9, 91, wide]))
+        }
+        _ => {
+            let t = r.pick(&[0, 1_001, 1 << 32, (1 << 32) + 1, u64::MAX]);
+            Call::Step(t, strickler(r))
+        }
     };
     Entry { wants, call }
 }
@@ -289,7 +299,8 @@ fn water(record: &Record) -> u128 {
 
 fn name(call: &Call) -> &'static str {
     match call {
-        Call::Step(_) => "step",
+        Call::Step(_, 0) => "step",
+        Call::Step(..) => "step with friction",
         Call::Transport => "transport",
         Call::SetBoundaries(_) => "setting of boundaries",
         Call::Greatest => "greatest step",
@@ -391,6 +402,12 @@ fn lists_through_the_driver_agree() {
         ("step", 11),
         ("step", 12),
         ("step", 16),
+        ("step with friction", 0),
+        ("step with friction", 10),
+        ("step with friction", 17),
+        ("step with friction", 11),
+        ("step with friction", 12),
+        ("step with friction", 16),
         ("transport", 0),
         ("transport", 16),
         ("setting of boundaries", 0),
@@ -426,7 +443,7 @@ fn a_refused_opening_plays_nothing() {
         let record = sheet(&mut r, n).record;
         let wants = wants_of(&mut r, &record);
         for call in [
-            Call::Step(1),
+            Call::Step(1, allowed_strickler(&mut r)),
             Call::Write(sheet_length(n)),
             reopen(&mut r, n),
         ] {

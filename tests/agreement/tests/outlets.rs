@@ -2,14 +2,16 @@
 //! entry by entry, after refusals as well. Then lists of calls in which the wants change, and a run by hand.
 
 use agreement::both::{
-    broken, greatest, same, same_opening_with, same_writing, two_cells, Call, Outcome, GROUNDS,
+    allowed_strickler, broken, greatest, same, same_opening_with, same_writing, two_cells, Call,
+    Outcome, GROUNDS,
 };
 use agreement::calls;
 use agreement::sheets::{damages, lent, Opening};
 use reference::outlet::{drawn_at, list_sound, MOST_OUTLETS};
 use reference::random::{
     cell_count, choose_wants, damage_end, damage_list, damage_record, end, kinds, lend_outlets,
-    odd_outlets, outlets_for_opening, record_of, totals_mut, Random, Record, COLUMN_ORDERS,
+    odd_outlets, outlets_for_opening, record_of, strickler, totals_mut, Random, Record,
+    COLUMN_ORDERS,
 };
 use reference::record::{DEEPEST, FASTEST, MOST_CELLS, MOST_TOTAL};
 use reference::sheet::sheet_length;
@@ -106,11 +108,11 @@ fn asked(before: &Record, after: &Record, t: u64) -> Vec<Asked> {
     cells.into_values().collect()
 }
 
-/// The same step by outlets that want nothing makes no transport.
+/// The same step by outlets that want nothing makes no transport; nor does friction make one.
 fn transported_by_drawing(before: &Record, t: u64) -> bool {
     let mut closed = before.clone();
     closed.outlets.iter_mut().for_each(|o| o.want = 0);
-    !Call::Step(t).theirs(&mut closed).transported
+    !Call::Step(t, 0).theirs(&mut closed).transported
 }
 
 /// Things that an accepted step with outlets can show.
@@ -177,11 +179,20 @@ fn fair(before: &Record, after: &Record, t: u64) {
     }
 }
 
-/// All five calls on one record, which stays: a step of t, and a write into so many bytes.
-fn five(r: &mut Random, record: &Record, t: u64, room: usize, seen: &mut Seen) -> [u32; 5] {
+/// What a step is given, and the bytes that a write has room for.
+#[derive(Clone, Copy)]
+struct Arguments {
+    t: u64,
+    strickler: u64,
+    room: usize,
+}
+
+/// All five calls on one record, which stays.
+fn five(r: &mut Random, record: &Record, given: Arguments, seen: &mut Seen) -> [u32; 5] {
+    let Arguments { t, strickler, room } = given;
     let new = [end(r), end(r)];
     let calls = [
-        Call::Step(t),
+        Call::Step(t, strickler),
         Call::Transport,
         Call::SetBoundaries(new),
         Call::Greatest,
@@ -208,8 +219,8 @@ fn five(r: &mut Random, record: &Record, t: u64, room: usize, seen: &mut Seen) -
 }
 
 /// The same calls, then all of them with a list that breaks 16 as well: 4 to 7 come before it, all others after it.
-fn five_with_16(r: &mut Random, record: &Record, t: u64, room: usize, seen: &mut Seen) -> [u32; 5] {
-    let numbers = five(r, record, t, room, seen);
+fn five_with_16(r: &mut Random, record: &Record, given: Arguments, seen: &mut Seen) -> [u32; 5] {
+    let numbers = five(r, record, given, seen);
     if !list_sound(&record.outlets, MOST_CELLS) {
         return numbers;
     }
@@ -217,7 +228,7 @@ fn five_with_16(r: &mut Random, record: &Record, t: u64, room: usize, seen: &mut
     // where the bed column is empty, 4 comes first
     damage_list(r, &mut bad.outlets, record.columns.bed.len().max(1));
     let expected = numbers.map(|n| if (4..=7).contains(&n) { n } else { 16 });
-    assert_eq!(five(r, &bad, t, room, seen), expected, "{record:?}");
+    assert_eq!(five(r, &bad, given, seen), expected, "{record:?}");
     for (name, number) in NAMES.into_iter().zip(numbers) {
         *seen.with_16.entry((name, number)).or_default() += 1;
     }
@@ -233,8 +244,8 @@ fn any_record(r: &mut Random) -> Record {
     record
 }
 
-/// t about the greatest step, small and out of range, and a room for the sheet that is mostly enough.
-fn arguments(r: &mut Random, record: &Record) -> (u64, usize) {
+/// t about the greatest step, small and out of range, any coefficient, and a room for the sheet that is mostly enough.
+fn arguments(r: &mut Random, record: &Record) -> Arguments {
     let most = greatest(record);
     let any = 1 + r.below(most);
     let t = r.pick(&[
@@ -250,19 +261,24 @@ fn arguments(r: &mut Random, record: &Record) -> (u64, usize) {
         most + (1 << 32),
     ]);
     let sheet = sheet_length(record.columns.bed.len());
-    (t, r.pick(&[sheet, sheet + 9, sheet - 1, 80]))
+    Arguments {
+        t,
+        strickler: strickler(r),
+        room: r.pick(&[sheet, sheet + 9, sheet - 1, 80]),
+    }
 }
 
 /// Totals that a step fills to the last unit, then each total of an outlet that it adds to with one unit less room.
 fn to_the_limit(r: &mut Random, record: &Record, seen: &mut Seen) {
-    let t = greatest(record);
+    let (t, strickler) = (greatest(record), allowed_strickler(r));
+    let step = Call::Step(t, strickler);
     let mut empty = record.clone();
     empty.book = Book::default();
     for o in &mut empty.outlets {
         (o.water, o.nutrient) = (0, 0);
     }
     let mut gained = empty.clone();
-    let came = same(Call::Step(t), &mut gained);
+    let came = same(step, &mut gained);
     if came.refusal != 0 {
         return;
     }
@@ -275,8 +291,9 @@ fn to_the_limit(r: &mut Random, record: &Record, seen: &mut Seen) {
         (o.water, o.nutrient) = (MOST_TOTAL - gain.water, MOST_TOTAL - gain.nutrient);
     }
     let room = sheet_length(record.columns.bed.len());
+    let given = Arguments { t, strickler, room };
     let mut filled = full.clone();
-    assert_eq!(same(Call::Step(t), &mut filled).refusal, 0, "{full:?}");
+    assert_eq!(same(step, &mut filled).refusal, 0, "{full:?}");
     assert!(filled
         .outlets
         .iter()
@@ -295,7 +312,7 @@ fn to_the_limit(r: &mut Random, record: &Record, seen: &mut Seen) {
         } else {
             continue;
         }
-        assert_eq!(five(r, &over, t, room, seen)[0], 13, "{over:?}");
+        assert_eq!(five(r, &over, given, seen)[0], 13, "{over:?}");
     }
     to_the_limit_of_mass(r, record, seen);
 }
@@ -326,8 +343,12 @@ fn to_the_limit_of_mass(r: &mut Random, record: &Record, seen: &mut Seen) {
     };
     over.outlets[k].nutrient += 1;
     seen.mark("13 by mass in a transport", true);
-    let room = sheet_length(record.columns.bed.len());
-    let numbers = five(r, &over, 0, room, seen);
+    let given = Arguments {
+        t: 0,
+        strickler: strickler(r),
+        room: sheet_length(record.columns.bed.len()),
+    };
+    let numbers = five(r, &over, given, seen);
     assert_eq!(numbers[..3], [10, 13, 13], "{over:?}");
 }
 
@@ -335,24 +356,24 @@ fn to_the_limit_of_mass(r: &mut Random, record: &Record, seen: &mut Seen) {
 /// these with a list that breaks 16 too.
 fn around(r: &mut Random, record: &mut Record, seen: &mut Seen) {
     for _ in 0..10 {
-        let (t, room) = arguments(r, record);
+        let given = arguments(r, record);
         let most = greatest(record);
-        choose_wants(r, record, t.clamp(1, most));
-        five_with_16(r, record, t, room, seen);
+        choose_wants(r, record, given.t.clamp(1, most));
+        five_with_16(r, record, given, seen);
     }
     to_the_limit(r, record, seen);
     let odd = odd_outlets(r, record);
     for _ in 0..4 {
         let (ground, odd) = &odd[r.below(odd.len() as u64) as usize];
-        let (t, room) = arguments(r, record);
-        let numbers = five(r, odd, t, room, seen);
+        let given = arguments(r, record);
+        let numbers = five(r, odd, given, seen);
         if *ground != 0 {
             assert_eq!(numbers, [*ground; 5], "{odd:?}");
         }
     }
     for b in broken(r, record) {
-        let (t, room) = arguments(r, record);
-        let numbers = five_with_16(r, &b.record, t, room, seen);
+        let given = arguments(r, record);
+        let numbers = five_with_16(r, &b.record, given, seen);
         assert_eq!(numbers, [b.ground; 5], "{:?}", b.record);
     }
 }
@@ -418,14 +439,14 @@ fn single_calls_with_outlets_agree() {
     }
     let of_record = GROUNDS.to_vec();
     let with = |more: &[u32]| [&of_record, more].concat();
-    seen.at_least(800, "step", &with(&[0, 10, 11, 12, 13]));
+    seen.at_least(800, "step", &with(&[0, 10, 17, 11, 12, 13]));
     seen.at_least(800, "transport", &with(&[0, 13]));
     seen.at_least(800, "setting of boundaries", &with(&[0, 13]));
     seen.at_least(800, "greatest step", &with(&[0]));
     seen.at_least(800, "write", &with(&[0, 14, 15]));
     seen.at_least(800, OPENING, &[0, 1, 2, 3, 4, 5, 6, 7, 16]);
     for (name, grounds) in [
-        ("step", with(&[0, 10, 11, 12, 13])),
+        ("step", with(&[0, 10, 17, 11, 12, 13])),
         ("transport", with(&[0, 13])),
         ("setting of boundaries", with(&[0, 13])),
         ("greatest step", with(&[0])),
@@ -482,7 +503,7 @@ impl Listed {
             held_and_passed(&before),
             "{call:?}"
         );
-        if let (Call::Step(_), 0) = (call, came.refusal) {
+        if let (Call::Step(..), 0) = (call, came.refusal) {
             let drew = given(&before, record).iter().any(|&g| g > 0);
             *self.drew.entry(came.transported).or_default() += u64::from(drew);
         }
@@ -494,7 +515,8 @@ impl Listed {
         let ground = r.pick(&GROUNDS);
         let mut damaged = record.clone();
         damage_record(r, &mut damaged, ground);
-        let call = r.pick(&[Call::Step(1), Call::Transport, Call::Greatest]);
+        let step = Call::Step(1, strickler(r));
+        let call = r.pick(&[step, Call::Transport, Call::Greatest]);
         assert_eq!(self.call(call, &mut damaged), ground, "{damaged:?}");
     }
 
@@ -503,7 +525,8 @@ impl Listed {
         let k = r.below(record.outlets.len() as u64) as usize;
         let want = record.outlets[k].want;
         record.outlets[k].want = r.pick(&[DEEPEST + 1, want + (1 << 32), u64::MAX]);
-        let call = r.pick(&[Call::Step(1), Call::Transport, Call::Greatest]);
+        let step = Call::Step(1, strickler(r));
+        let call = r.pick(&[step, Call::Transport, Call::Greatest]);
         assert_eq!(self.call(call, record), 16);
         record.outlets[k].want = want;
     }
@@ -558,7 +581,7 @@ impl Listed {
             choose_wants(r, record, t.clamp(1, most));
             self.changed_wants += u64::from(!record.outlets.is_empty());
         }
-        self.call(Call::Step(t), record);
+        self.call(Call::Step(t, strickler(r)), record);
     }
 
     fn any(&mut self, r: &mut Random, record: &mut Record) {
@@ -601,7 +624,7 @@ fn lists_of_calls_with_outlets_agree() {
     }
     let seen = &listed.seen;
     assert_eq!(seen.calls, 200_000);
-    seen.at_least(500, "step", &[0, 4, 5, 6, 7, 8, 9, 10, 11, 16]);
+    seen.at_least(500, "step", &[0, 4, 5, 6, 7, 8, 9, 10, 11, 16, 17]);
     seen.at_least(5, "step", &[12]);
     seen.at_least(500, "transport", &[0, 4, 5, 6, 7, 8, 9, 16]);
     seen.at_least(500, "setting of boundaries", &[0, 6]);
@@ -627,7 +650,7 @@ fn two_cell_run_with_outlets() {
     record.outlets = [(1, 0), (1, 2_000_000), (0, 300), (1, 900_000)]
         .map(|(cell, want)| Outlet::new(cell, want))
         .to_vec();
-    let stepped = calls::step(&mut record, 100);
+    let stepped = calls::step(&mut record, 100, 0);
     assert_eq!((stepped.refusal, stepped.settled), (0, false));
     assert_eq!(stepped.book, Book::default());
     let drawn = |record: &Record| record.outlets.iter().map(|o| o.drawn).collect::<Vec<_>>();

@@ -2,12 +2,13 @@
 //! came first, and every column entry by entry. Then the figures of document 01, still water, and the balance of the ledger.
 
 use agreement::both::{
-    brim, broken, fill_ledger, fresh, greatest, same, two_cells, Call, Outcome, WALL,
+    allowed_strickler, brim, broken, fill_ledger, fresh, greatest, same, two_cells, Call, Outcome,
+    WALL,
 };
 use agreement::calls;
 use reference::flux::speed;
 use reference::random::{
-    book_from, cell_count, damage_end, end, kinds, record, record_of, Random, Record,
+    book_from, cell_count, damage_end, end, kinds, record, record_of, strickler, Random, Record,
 };
 use reference::record::{DEEPEST, FASTEST, MOST_CELLS, MOST_TOTAL, OPEN};
 use reference::{Book, End, StepAnswer};
@@ -63,9 +64,9 @@ fn marks(before: &Record, after: &Record, transported: bool) -> Vec<(&'static st
 }
 
 /// One step on both, noted; the record stays.
-fn step(record: &Record, t: u64, seen: &mut Seen) -> Outcome {
+fn step(record: &Record, t: u64, f: u64, seen: &mut Seen) -> Outcome {
     let mut after = record.clone();
-    let answer = same(Call::Step(t), &mut after);
+    let answer = same(Call::Step(t, f), &mut after);
     seen.steps += 1;
     *seen.grounds.entry(answer.refusal).or_default() += 1;
     if answer.refusal == 0 {
@@ -127,24 +128,24 @@ fn totals(ledger: &Book) -> [u64; 8] {
 }
 
 /// A ledger that the step fills to the last unit, then each total that it adds to with one unit less room.
-fn to_the_limit(record: &Record, t: u64, seen: &mut Seen) {
+fn to_the_limit(record: &Record, t: u64, f: u64, seen: &mut Seen) {
     let with = |totals: [u64; 8]| Record {
         book: book_from(totals),
         ..record.clone()
     };
-    let answer = step(&with([0; 8]), t, seen);
+    let answer = step(&with([0; 8]), t, f, seen);
     if answer.refusal != 0 {
         return;
     }
     let gains = totals(&answer.ledger);
     let room = gains.map(|gain| MOST_TOTAL - gain);
-    let filled = step(&with(room), t, seen);
+    let filled = step(&with(room), t, f, seen);
     assert_eq!(filled.refusal, 0);
     assert_eq!(totals(&filled.ledger), [MOST_TOTAL; 8]);
     for (k, _) in gains.iter().enumerate().filter(|(_, &gain)| gain > 0) {
         let mut over = room;
         over[k] += 1;
-        assert_eq!(step(&with(over), t, seen).refusal, 13);
+        assert_eq!(step(&with(over), t, f, seen).refusal, 13);
         seen.full.insert(k);
     }
 }
@@ -153,20 +154,20 @@ fn to_the_limit(record: &Record, t: u64, seen: &mut Seen) {
 fn around(r: &mut Random, record: &Record, seen: &mut Seen) {
     let times = times(r, record);
     for t in times {
-        step(record, t, seen);
+        step(record, t, strickler(r), seen);
     }
-    to_the_limit(record, r.pick(&times[..5]), seen);
+    to_the_limit(record, r.pick(&times[..5]), allowed_strickler(r), seen);
     let mut full = record.clone();
     fill_ledger(&mut full);
-    step(&full, r.pick(&times), seen);
+    step(&full, r.pick(&times), strickler(r), seen);
     let mut deep = record.clone();
     brim(r, &mut deep);
     let most = greatest(&deep);
     for t in [most, most + 1, r.pick(&times)] {
-        step(&deep, t, seen);
+        step(&deep, t, strickler(r), seen);
     }
     for b in broken(r, record) {
-        let answer = step(&b.record, r.pick(&times), seen);
+        let answer = step(&b.record, r.pick(&times), strickler(r), seen);
         assert_eq!(answer.refusal, b.ground);
     }
 }
@@ -181,7 +182,7 @@ fn single_steps_agree() {
         let record = record(&mut r, n);
         around(&mut r, &record, &mut seen);
     }
-    for ground in (4..=13).chain([0, 16]) {
+    for ground in (4..=13).chain([0, 16, 17]) {
         assert!(seen.grounds.contains_key(&ground), "{ground}");
     }
     for (mark, times) in &seen.marks {
@@ -206,16 +207,18 @@ fn deep_and_fast(fast_first: bool) -> Record {
     }
 }
 
-/// t out of range, a cell too fast, another one too deep and a full ledger: 10, 11, 12 and 13 come in this order.
+/// t out of range, another coefficient, a cell too fast, another one too deep and a full ledger: 10, 17, 11, 12 and 13 come in this order.
 #[test]
 fn a_step_looks_at_its_grounds_in_order() {
     for fast_first in [true, false] {
         let mut record = deep_and_fast(fast_first);
-        let refusal = |record: &Record, t| same(Call::Step(t), &mut record.clone()).refusal;
+        let number = |record: &Record, t, f| same(Call::Step(t, f), &mut record.clone()).refusal;
+        let refusal = |record: &Record, t| number(record, t, 0);
         // |u|+a is 8,121 in the fast cell, and at most 7,680 in the others
         assert_eq!(greatest(&record), 123);
         fill_ledger(&mut record);
-        assert_eq!([0, 1_001].map(|t| refusal(&record, t)), [10, 10]);
+        assert_eq!([0, 1_001].map(|t| number(&record, t, 9)), [10, 10]);
+        assert_eq!([123, 124].map(|t| number(&record, t, 9)), [17, 17]);
         assert_eq!([124, 130].map(|t| refusal(&record, t)), [11, 11]);
         assert_eq!(refusal(&record, 123), 12);
         let middle = if fast_first { 2 } else { 1 };
@@ -260,7 +263,7 @@ fn any_call(r: &mut Random, most: u64) -> Call {
             Call::SetBoundaries(new)
         }
         5..=7 => Call::Greatest,
-        _ => Call::Step(time(r, most)),
+        _ => Call::Step(time(r, most), strickler(r)),
     }
 }
 
@@ -315,6 +318,7 @@ fn lists_of_calls_agree() {
         ("step", 11),
         ("step", 12),
         ("step", 13),
+        ("step", 17),
     ] {
         assert!(listed.calls.contains_key(&came_out), "{came_out:?}");
     }
@@ -326,7 +330,7 @@ fn lists_of_calls_agree() {
 #[test]
 fn two_cell_run() {
     let mut record = two_cells();
-    let stepped = calls::step(&mut record, 100);
+    let stepped = calls::step(&mut record, 100, 0);
     assert_eq!((stepped.refusal, stepped.settled), (0, false));
     assert_eq!(stepped.book, Book::default());
     assert_eq!(record.columns.carried, [0, 92_868, 0]);
@@ -348,11 +352,11 @@ fn two_cell_run() {
 fn longest_step_at_one_metre() {
     let still = fresh(1_000, [WALL; 2], &[(0, 1_000_000, 0, 0)]);
     let mut record = still.clone();
-    let refused = calls::step(&mut record, 261);
+    let refused = calls::step(&mut record, 261, 0);
     assert_eq!((refused.refusal, refused.settled), (11, false));
     assert_eq!((refused.ends, refused.book), (still.ends, still.book));
     assert_eq!(record, still);
-    assert_eq!(calls::step(&mut record, 260).refusal, 0);
+    assert_eq!(calls::step(&mut record, 260, 0).refusal, 0);
 }
 
 /// Water at rest between walls with its surface at 0; where the bed is above it the reach is dry.
@@ -364,10 +368,10 @@ fn level(x: u64, bed: impl Iterator<Item = i64>) -> Record {
     fresh(x, [WALL; 2], &cells)
 }
 
-/// 10,000 times the greatest step, and nothing at all has changed after each.
+/// 10,000 times the greatest step, with friction every second time, and nothing at all has changed after each.
 fn stays_still(still: &Record) {
     let mut record = still.clone();
-    for _ in 0..10_000 {
+    for k in 0..10_000 {
         let t = calls::greatest_step(&record).t;
         let expected = StepAnswer {
             refusal: 0,
@@ -375,7 +379,7 @@ fn stays_still(still: &Record) {
             book: still.book,
             settled: false,
         };
-        assert_eq!(calls::step(&mut record, t), expected);
+        assert_eq!(calls::step(&mut record, t, [0, 35][k % 2]), expected);
         assert_eq!(record, *still);
     }
 }

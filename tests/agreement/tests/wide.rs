@@ -1,8 +1,9 @@
-//! Numbers at and beyond 2^32 and 2^63 in every argument that has the bits for them: X, t, boundaries held and given, columns, outlets, ledger and sheet.
-//! Cut to fewer bits many of them would be sound. Each call is compared with the second implementation, and its number is the paper's.
+//! Numbers at and beyond 2^32 and 2^63 in every argument that has the bits for them: X, t, Strickler's coefficient, boundaries held and given, columns,
+//! outlets, ledger and sheet. Cut to fewer bits many of them would be sound. Each call is compared with the second implementation, and its number is
+//! the paper's.
 
-use agreement::both::{fresh, greatest, same, same_opening, same_opening_with, same_writing};
-use agreement::both::{Call, GROUNDS, WALL};
+use agreement::both::{allowed_strickler, fresh, greatest, same, same_opening};
+use agreement::both::{same_opening_with, same_writing, Call, GROUNDS, WALL};
 use agreement::sheets::Opening;
 use reference::random::{cell_count, end, kinds, lend_outlets, record_of, totals_mut};
 use reference::random::{Random, Record, COLUMN_ORDERS};
@@ -20,6 +21,8 @@ struct Given {
     /// the boundaries to set
     new: [End; 2],
     t: u64,
+    /// Strickler's coefficient
+    strickler: u64,
 }
 
 /// The numbers of step, transport, setting of boundaries, greatest step and write, each the same from both implementations.
@@ -28,7 +31,7 @@ fn numbers(given: &Given) -> [u32; 5] {
     let number = |call| same(call, &mut record.clone()).refusal;
     let output = vec![0xA5; sheet_length(record.columns.bed.len())];
     [
-        number(Call::Step(given.t)),
+        number(Call::Step(given.t, given.strickler)),
         number(Call::Transport),
         number(Call::SetBoundaries(given.new)),
         number(Call::Greatest),
@@ -49,6 +52,7 @@ enum Field {
     /// left, then right
     Total(usize),
     TimeStep,
+    Strickler,
 }
 
 #[derive(Clone, Copy, Debug, PartialEq)]
@@ -105,7 +109,12 @@ const ENTRIES: [Entry; 5] = [
 
 impl Field {
     fn place(self, given: &mut Given) -> Place<'_> {
-        let Given { record, new, t } = given;
+        let Given {
+            record,
+            new,
+            t,
+            strickler,
+        } = given;
         let c = &mut record.columns;
         match self {
             Field::CellLength => Place::Unsigned(&mut record.x),
@@ -123,6 +132,7 @@ impl Field {
                 Place::Unsigned(total.expect("eight totals"))
             }
             Field::TimeStep => Place::Unsigned(t),
+            Field::Strickler => Place::Unsigned(strickler),
         }
     }
 
@@ -136,6 +146,7 @@ impl Field {
             Field::Carried(_) | Field::Outlet(_, Entry::Drawn) => 8,
             Field::Total(_) | Field::Outlet(_, Entry::Water | Entry::Mass) => 9,
             Field::TimeStep => 10,
+            Field::Strickler => 17,
         }
     }
 
@@ -161,13 +172,15 @@ impl Field {
             Field::Carried(_) | Field::Outlet(_, Entry::Drawn) => DEEPEST,
             Field::Total(_) | Field::Outlet(_, Entry::Water | Entry::Mass) => MOST_TOTAL,
             Field::TimeStep => MOST_T,
+            // wide numbers are far beyond 10
+            Field::Strickler => 90,
         }
     }
 
     /// Which calls are given it, in the order of `numbers`.
     fn given_to(self) -> [bool; 5] {
         match self {
-            Field::TimeStep => [true, false, false, false, false],
+            Field::TimeStep | Field::Strickler => [true, false, false, false, false],
             Field::Boundary(2.., _) => [false, false, true, false, false],
             _ => [true; 5],
         }
@@ -300,12 +313,13 @@ fn sound_arguments() -> Vec<Given> {
                 record: reach(depth, pairs(depth)[held]),
                 new: pairs(depth)[new],
                 t: 5,
+                strickler: [0, 30, 90][held],
             };
             given.record.outlets = outlets(depth);
             assert_eq!(numbers(&given), [0; 5]);
             list.push(given.clone());
-            let t = greatest(&given.record);
-            assert_eq!(same(Call::Step(t), &mut given.record).refusal, 0);
+            let step = Call::Step(greatest(&given.record), given.strickler);
+            assert_eq!(same(step, &mut given.record).refusal, 0);
             assert_eq!(numbers(&given), [0, 0, 0, 0, 14]);
             assert!(given.record.outlets.iter().all(|o| o.drawn > 0));
             list.push(given);
@@ -330,7 +344,7 @@ fn changed(sound: &Given, fields: &[Field]) -> Vec<(Change, Given)> {
     list
 }
 
-/// Where a ground stands in checking order: 16 comes after 7.
+/// Where a ground stands in checking order: 16 comes after 7, 17 after 10.
 fn order(ground: u32) -> usize {
     let of_record = GROUNDS.iter().position(|&g| g == ground);
     of_record.unwrap_or(ground as usize)
@@ -505,6 +519,11 @@ fn wide_time_steps() {
     assert!(!some_allowed(&[Field::TimeStep]));
 }
 
+#[test]
+fn wide_coefficients() {
+    assert!(!some_allowed(&[Field::Strickler]));
+}
+
 /// Nothing is carried or drawn.
 fn settled(given: &Given) -> bool {
     let Record {
@@ -562,13 +581,14 @@ fn wide_numbers_in_lent_columns() {
     }
 }
 
-/// Any field of a record, of the boundaries to set, or t.
+/// Any field of a record, of the boundaries to set, t or Strickler's coefficient.
 fn any_field(r: &mut Random, record: &Record) -> Field {
     let mut below = |limit: usize| r.below(limit as u64) as usize;
     let (n, outlets) = (record.columns.bed.len(), record.outlets.len());
-    match below(10) {
+    match below(11) {
         0 => Field::CellLength,
         1 => Field::TimeStep,
+        10 => Field::Strickler,
         2 | 3 => Field::Boundary(below(4), PARTS[below(5)]),
         4 | 5 => Field::Cell(below(n), COLUMNS[below(5)]),
         6 => Field::Carried(below(n + 1)),
@@ -586,6 +606,7 @@ fn any_given(r: &mut Random) -> Given {
     }
     Given {
         t: 1 + r.below(greatest(&record)),
+        strickler: allowed_strickler(r),
         new: [end(r), end(r)],
         record,
     }
@@ -628,5 +649,5 @@ fn mixtures_of_wide_numbers() {
             assert!(seen.contains(&(call, number)), "{call} {number}");
         }
     }
-    assert!(seen.contains(&(0, 10)));
+    assert!(seen.contains(&(0, 10)) && seen.contains(&(0, 17)));
 }

@@ -1,7 +1,9 @@
 //! A water step written for speed, as the opponent of the proved one: nothing is allocated, the checks take one pass and the
-//! fluxes another, the wave speed of a cell is found once, and arithmetic is unchecked in the release profile.
+//! fluxes another, the wave speed of a cell is found once, what friction needs of t and F before the cells, and arithmetic is unchecked in the release
+//! profile.
 
 use reference::flux::{reduced_depth, speed, Water};
+use reference::friction::allowed;
 use reference::record::{
     end_sound, ground, length_sound, outflow, Book, Columns, End, BED_LIMIT, DEEPEST, FASTEST, FED,
     MOST_CELLS, MOST_TOTAL, RICHEST, WALL,
@@ -38,8 +40,15 @@ struct Crossing {
 }
 
 #[inline(never)]
-pub fn step(c: &mut Columns, x: u64, boundaries: [End; 2], ledger: Book, t: u64) -> StepAnswer {
-    match try_step(c, x, &boundaries, &ledger, t) {
+pub fn step(
+    c: &mut Columns,
+    x: u64,
+    boundaries: [End; 2],
+    ledger: Book,
+    t: u64,
+    strickler: u64,
+) -> StepAnswer {
+    match try_step(c, x, &boundaries, &ledger, t, strickler) {
         Ok((ledger, transported)) => StepAnswer {
             refusal: 0,
             ends: boundaries,
@@ -62,10 +71,12 @@ fn try_step(
     boundaries: &[End; 2],
     ledger: &Book,
     t: u64,
+    strickler: u64,
 ) -> Result<(Book, bool), u32> {
     let n = check(c, x, boundaries, ledger)?;
     ground(10, (1..=MOST_T).contains(&t))?;
-    let found = find(c, n, boundaries, t, x);
+    ground(17, allowed(strickler))?;
+    let found = find(c, n, boundaries, t, x, Bed::new(t, strickler));
     ground(11, t * found.reach <= 1_000 * x)?;
     ground(12, found.deepest <= DEEPEST as i64)?;
     let ledger = gain(c, n, boundaries, ledger, &found)?;
@@ -128,9 +139,63 @@ fn beyond(boundary: &End, cell: Water) -> Water {
     }
 }
 
+/// Roots of 1,000 k^4 for k of 0..400.
+static ROOTS: [u32; 401] = roots();
+
+const fn roots() -> [u32; 401] {
+    let mut list = [0; 401];
+    let mut k = 1;
+    while k < list.len() {
+        let most = 1_000 * (k as u64).pow(4);
+        // no root is below the last
+        let mut root = list[k - 1];
+        while (root as u64 + 1).pow(3) <= most {
+            root += 1;
+        }
+        list[k] = root;
+        k += 1;
+    }
+    list
+}
+
+/// The bed's friction in a step.
+#[derive(Clone, Copy)]
+struct Bed {
+    /// F²
+    square: u64,
+    /// 45,518 t
+    drag: u64,
+}
+
+impl Bed {
+    #[inline]
+    fn new(t: u64, strickler: u64) -> Bed {
+        Bed {
+            square: strickler * strickler,
+            drag: 45_518 * t,
+        }
+    }
+
+    /// What friction leaves of a discharge: less q·E/(D+E) rounded up, where q·E has 64 bits and q·D has not. A depth below 0 or past the list is
+    /// refused afterwards.
+    #[inline]
+    fn slow(self, discharge: i64, depth: i64, speed: i64) -> i64 {
+        if self.square == 0 {
+            return discharge;
+        }
+        let d = self.square * u64::from(ROOTS[(depth as usize / 10_000).min(400)]);
+        if d == 0 {
+            return 0;
+        }
+        let e = self.drag * speed.unsigned_abs() / 1_000_000;
+        let lost = (discharge.unsigned_abs() * e).div_ceil(d + e) as i64;
+        discharge - lost * discharge.signum()
+    }
+}
+
 /// One pass over the interfaces, left to right.
 #[inline]
-fn find(c: &Columns, n: usize, boundaries: &[End; 2], t: u64, x: u64) -> Found {
+fn find(c: &Columns, n: usize, boundaries: &[End; 2], t: u64, x: u64, rough: Bed) -> Found {
     let (bed, depth, discharge) = (&c.bed[..n], &c.depth[..n], &c.discharge[..n]);
     let (base, carried) = (&c.base[..n], &c.carried[..n + 1]);
     let water = |i: usize| water(bed[i], depth[i], discharge[i]);
@@ -157,8 +222,9 @@ fn find(c: &Columns, n: usize, boundaries: &[End; 2], t: u64, x: u64) -> Found {
         let new_depth = depth[i] as i64 + left.water - right.water;
         let unclamped = discharge[i] + left.momentum - right.momentum
             + bed_thrust(t, x, right.left, left.right);
+        let slowed = rough.slow(unclamped, new_depth, cell.speed);
         let most = FASTEST as i64 * new_depth;
-        found.discharge[i] = unclamped.min(most).max(-most);
+        found.discharge[i] = slowed.min(most).max(-most);
         found.water[i + 1] = right.water;
         found.reach = found.reach.max(next.reach());
         found.deepest = found.deepest.max(new_depth);

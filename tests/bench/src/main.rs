@@ -1,5 +1,5 @@
-//! Speed as a ratio to plain Rust, both built for release and measured in one run; of a step with outlets as a ratio to the same step without. Not a
-//! test: it prints, and fails on nothing.
+//! Speed as a ratio to plain Rust, both built for release and measured in one run; of a step with outlets or with friction as a ratio to the same step
+//! without. Not a test: it prints, and fails on nothing.
 //!
 //! Each pair goes over the same inputs in turn, one call of a function that is not inlined at a time; the least of several
 //! rounds counts, since whatever else the machine does only adds time. An argument picks the lines whose name it is part of.
@@ -10,7 +10,7 @@ use agreement::both::broken;
 use reference::flux;
 use reference::outlet::MOST_OUTLETS;
 use reference::random::{
-    any_record, end_of_kind, record_of, sheet_of, Random, Record, COLUMN_ORDERS,
+    any_record, end_of_kind, record_of, sheet_of, strickler, Random, Record, COLUMN_ORDERS,
 };
 use reference::record::{FED, OPEN};
 use reference::sheet::field;
@@ -20,6 +20,8 @@ use std::time::Instant;
 
 const INPUTS: usize = 200_000;
 const ROUNDS: usize = 25;
+/// Strickler's coefficient of an earth canal with some weeds.
+const ROUGH: u64 = 35;
 
 /// Nanoseconds a call, over all inputs once.
 fn round<I: Copy, O>(inputs: &[I], call: &impl Fn(I) -> O) -> f64 {
@@ -146,7 +148,7 @@ fn flow(r: &mut Random, cells: usize, slope: i64) -> Record {
     }
 }
 
-fn reference_step(p: &mut Planned) -> reference::StepAnswer {
+fn reference_step(p: &mut Planned, strickler: u64) -> reference::StepAnswer {
     let Record {
         columns,
         outlets,
@@ -154,7 +156,7 @@ fn reference_step(p: &mut Planned) -> reference::StepAnswer {
         ends,
         book,
     } = &mut p.record;
-    reference::step(columns, outlets, *x, *ends, *book, p.t)
+    reference::step(columns, outlets, *x, *ends, *book, p.t, strickler)
 }
 
 /// Accepted greatest steps with a transport first, or that keep their sums, each out of a flow of its own some steps old.
@@ -168,7 +170,7 @@ fn planned(r: &mut Random, cells: usize, slope: i64, transported: bool) -> Vec<P
                 reference::greatest_step(&now.columns, &now.outlets, now.x, now.ends, now.book).t;
             let before = now.clone();
             let mut p = Planned { record: now, t };
-            let answer = reference_step(&mut p);
+            let answer = reference_step(&mut p, 0);
             assert_eq!(answer.refusal, 0);
             if age == 0 && answer.settled == transported {
                 list.push(Planned { record: before, t });
@@ -183,7 +185,7 @@ fn planned(r: &mut Random, cells: usize, slope: i64, transported: bool) -> Vec<P
 }
 
 /// One step, ours against the one written for speed; putting the record back as it came counts for both. Gives our nanoseconds.
-fn compare_step(name: &str, list: &[Planned]) -> f64 {
+fn compare_step(name: &str, list: &[Planned], strickler: u64) -> f64 {
     let scratch = std::cell::RefCell::new(list[0].record.clone());
     compare(
         name,
@@ -191,29 +193,32 @@ fn compare_step(name: &str, list: &[Planned]) -> f64 {
         |i| {
             let mut record = scratch.borrow_mut();
             record.clone_from(&list[i].record);
-            agreement::calls::step(&mut record, list[i].t)
+            agreement::calls::step(&mut record, list[i].t, strickler)
         },
         |i| {
             let mut record = scratch.borrow_mut();
             record.clone_from(&list[i].record);
             let (x, ends, book) = (record.x, record.ends, record.book);
-            fast::step(&mut record.columns, x, ends, book, list[i].t)
+            fast::step(&mut record.columns, x, ends, book, list[i].t, strickler)
         },
         1.0,
     )
 }
 
-/// Steps that keep their sums, steps with a transport first, and steps over a flat bed, of 512 and of 64 cells.
+/// Steps that keep their sums, steps with a transport first, and steps over a flat bed, without friction and with, of 512 and of 64 cells.
 fn compare_steps(r: &mut Random) {
     let kinds = [
-        ("sloping bed", 1_000, false),
-        ("sloping bed, transport", 1_000, true),
-        ("flat bed", 0, false),
+        ("sloping bed", 1_000, false, 0),
+        ("sloping bed, transport", 1_000, true, 0),
+        ("flat bed", 0, false, 0),
+        ("sloping bed, friction", 1_000, false, ROUGH),
+        ("flat bed, friction", 0, false, ROUGH),
     ];
-    for (kind, slope, transported) in kinds {
+    for (kind, slope, transported, strickler) in kinds {
         let [long, short] = [512, 64].map(|cells| {
             let list = planned(r, cells, slope, transported);
-            compare_step(&format!("step of {cells} cells, {kind}"), &list) / cells as f64
+            let name = format!("step of {cells} cells, {kind}");
+            compare_step(&name, &list, strickler) / cells as f64
         });
         let ratio = long / short;
         if ratio.is_nan() {
@@ -227,9 +232,9 @@ fn compare_steps(r: &mut Random) {
 }
 
 /// Each flow as it is, before any step.
-fn new_flows(r: &mut Random, cells: usize) -> Vec<Planned> {
+fn new_flows(r: &mut Random, cells: usize, slope: i64) -> Vec<Planned> {
     let new = |r: &mut Random| {
-        let record = flow(r, cells, 1_000);
+        let record = flow(r, cells, slope);
         let answer = agreement::calls::greatest_step(&record);
         Planned {
             record,
@@ -252,7 +257,7 @@ fn compare_drawing(name: &str, plain: &[Planned], outlets: &[Outlet], most: f64)
     let step = |from: &Record, t: u64| {
         let mut record = scratch.borrow_mut();
         record.clone_from(from);
-        let answer = agreement::calls::step(&mut record, t);
+        let answer = agreement::calls::step(&mut record, t, 0);
         assert_eq!((answer.refusal, answer.settled), (0, false));
     };
     compare(
@@ -266,7 +271,7 @@ fn compare_drawing(name: &str, plain: &[Planned], outlets: &[Outlet], most: f64)
 
 /// A step of 512 cells with outlets, against the same without: none, 32 along the reach, 32 at one cell that fit, and that have to share.
 fn compare_outlets(r: &mut Random) {
-    let plain = new_flows(r, 512);
+    let plain = new_flows(r, 512, 1_000);
     let list = |place: fn(u64) -> u64, want: u64| -> Vec<Outlet> {
         let outlets = (0..MOST_OUTLETS as u64).map(|k| Outlet::new(place(k), want));
         outlets.collect()
@@ -294,6 +299,29 @@ fn compare_outlets(r: &mut Random) {
     }
     for (name, outlets, most) in lines {
         compare_drawing(name, &plain, &outlets, most);
+    }
+}
+
+/// A step of 512 cells with friction, against the same without; putting the record back as it came counts for both.
+fn compare_friction(r: &mut Random) {
+    let lines = [
+        ("step of 512 cells, friction, sloping bed", 1_000),
+        ("step of 512 cells, friction, flat bed", 0),
+    ];
+    if lines.iter().any(|(name, ..)| picked(name)) {
+        print_heads("a proved call", "friction", "without");
+    }
+    for (name, slope) in lines {
+        let list = new_flows(r, 512, slope);
+        let scratch = std::cell::RefCell::new(list[0].record.clone());
+        let step = |i: usize, strickler: u64| {
+            let mut record = scratch.borrow_mut();
+            record.clone_from(&list[i].record);
+            let answer = agreement::calls::step(&mut record, list[i].t, strickler);
+            assert_eq!((answer.refusal, answer.settled), (0, false));
+        };
+        let places: Vec<usize> = (0..list.len()).collect();
+        compare(name, &places, |i| step(i, ROUGH), |i| step(i, 0), 1.2);
     }
 }
 
@@ -331,16 +359,18 @@ fn fast_step_agrees(r: &mut Random) {
         )
         .t;
         let any = r.below(1_002);
-        let mut list: Vec<(Record, u64)> = [most, most + 1, any].map(|t| (sound.clone(), t)).into();
+        let times = [most, most, most, most + 1, any];
+        let mut list: Vec<(Record, u64)> = times.map(|t| (sound.clone(), t)).into();
         // it takes no outlets, so what is broken by them is left out
         let broken = broken(r, &sound).into_iter();
         let broken = broken.filter(|b| b.record.outlets.is_empty());
         list.extend(broken.map(|b| (b.record, most)));
         for (record, t) in list {
             let mut fast = record.clone();
-            let answer = fast::step(&mut fast.columns, record.x, record.ends, record.book, t);
+            let (x, ends, book, f) = (record.x, record.ends, record.book, strickler(r));
+            let answer = fast::step(&mut fast.columns, x, ends, book, t, f);
             let mut p = Planned { record, t };
-            assert_eq!(answer, reference_step(&mut p));
+            assert_eq!(answer, reference_step(&mut p, f));
             assert_eq!(fast, p.record);
         }
     }
@@ -372,5 +402,6 @@ fn main() {
     compare_greatest(&mut r, 512);
     compare_steps(&mut r);
     compare_outlets(&mut r);
+    compare_friction(&mut r);
     compare_program(&mut r);
 }

@@ -4,6 +4,7 @@
 //! time step t in ms, concentration in µg/l, nutrient in grains (1 µm of depth at 1 µg/l).
 
 pub mod flux;
+pub mod friction;
 pub mod greatest;
 pub mod outlet;
 pub mod program;

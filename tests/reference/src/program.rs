@@ -11,6 +11,8 @@ use crate::step::step;
 /// Step count and t after the sheet.
 const TRAILER: usize = 8;
 const MOST_STEPS: u32 = 1_000;
+/// "F is given with the step, 0 by the program"
+const NO_FRICTION: u64 = 0;
 
 /// The text printed for this standard input.
 pub fn program(input: &[u8]) -> String {
@@ -45,7 +47,7 @@ fn run(input: &[u8]) -> Result<(Columns, Book), u32> {
         return Err(10);
     }
     for _ in 0..count {
-        let stepped = step(&mut c, outlets, x, ends, book, t);
+        let stepped = step(&mut c, outlets, x, ends, book, t, NO_FRICTION);
         accepted(stepped.refusal)?;
         book = stepped.book;
     }

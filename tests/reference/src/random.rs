@@ -197,6 +197,21 @@ fn nutrient(r: &mut Random, style: &Style, b: u64) -> u64 {
     }
 }
 
+/// Strickler's coefficient: mostly none or one of 10..90, now and then beyond them.
+pub fn strickler(r: &mut Random) -> u64 {
+    match r.below(12) {
+        0 | 1 => 0,
+        2 => r.pick(&[10, 90]),
+        3 => 1 + r.below(9),
+        // the third would be sound if it were cut to 32 bits
+        4 => {
+            let above = 91 + r.below(1_000);
+            r.pick(&[91, above, (1 << 32) + 30, 1 << 63, u64::MAX])
+        }
+        _ => 10 + r.below(81),
+    }
+}
+
 fn cell_length(r: &mut Random) -> u64 {
     match r.below(6) {
         0 => LEAST_X,

@@ -1,6 +1,7 @@
-//! A water step ("A water step"); grounds 10 to 13 are found before anything is written.
+//! A water step ("A water step"); grounds 10 to 13 with 17 are found before anything is written.
 
-use crate::flux::{interface, Crossing, Water};
+use crate::flux::{interface, speed, Crossing, Water};
+use crate::friction::{allowed, slowed};
 use crate::outlet::{drawn_at, drawn_by_cell, draws, totals_sound, Outlet};
 use crate::record::{
     check, ground, outflow, Book, Columns, End, Totals, DEEPEST, FASTEST, FED, WALL,
@@ -28,7 +29,7 @@ struct Plan {
     outlets: Vec<Outlet>,
 }
 
-/// One water step of t ms.
+/// One water step of t ms; `strickler` is the coefficient F, m^(1/3)/s, 0 for no friction.
 pub fn step(
     c: &mut Columns,
     outlets: &mut [Outlet],
@@ -36,13 +37,14 @@ pub fn step(
     ends: [End; 2],
     book: Book,
     t: u64,
+    strickler: u64,
 ) -> StepAnswer {
-    match plan(c, outlets, x, &ends, &book, t) {
+    match plan(c, outlets, x, &ends, &book, t, strickler) {
         Ok(plan) => {
             if plan.settles {
                 move_shares(c, outlets, &ends);
             }
-            carry_out(c, &plan.crossings, &plan.drawing);
+            carry_out(c, &plan.crossings, &plan.drawing, t, strickler);
             outlets.copy_from_slice(&plan.outlets);
             StepAnswer {
                 refusal: 0,
@@ -67,9 +69,12 @@ fn plan(
     ends: &[End; 2],
     book: &Book,
     t: u64,
+    strickler: u64,
 ) -> Result<Plan, u32> {
     let n = check(c, outlets, x, ends, &[], book)?;
     ground(10, (1..=MOST_T).contains(&t))?;
+    // "another value is 17, checked after 10"
+    ground(17, allowed(strickler))?;
 
     let cells = cell_waters(c);
     let beyond = end_waters(ends, &cells);
@@ -204,18 +209,21 @@ fn end_water_gains(left: i64, right: i64) -> Book {
 }
 
 /// Writes h', q' and the carried water. After a settling c is 0, so adding N makes it N.
-fn carry_out(c: &mut Columns, crossings: &[Crossing], drawing: &[u64]) {
+fn carry_out(c: &mut Columns, crossings: &[Crossing], drawing: &[u64], t: u64, strickler: u64) {
     for i in 0..c.depth.len() {
         let (left, right) = (&crossings[i], &crossings[i + 1]);
-        let depth = new_depth(c, crossings, drawing, i);
+        // CFL keeps both outflows together within h and outlets draw what they leave, so h' ≥ 0
+        let depth = new_depth(c, crossings, drawing, i) as u64;
+        let old_speed = speed(c.depth[i], c.discharge[i]);
         // "q' = q + P(left) − P(right) + S(own h* at the right) − S(own h* at the left)":
         // the cell is the left side of its right interface
         let pushed = c.discharge[i] + left.push - right.push + right.still_left - left.still_right;
+        // "after the push and before the cut"
+        let slowed = slowed(pushed, depth, old_speed, t, strickler);
         // "then moved to the nearest value in ±8,000·h'"
-        let most = FASTEST as i64 * depth;
-        c.discharge[i] = pushed.clamp(-most, most);
-        // CFL keeps both outflows together within h and outlets draw what they leave, so h' ≥ 0
-        c.depth[i] = depth as u64;
+        let most = (FASTEST * depth) as i64;
+        c.discharge[i] = slowed.clamp(-most, most);
+        c.depth[i] = depth;
     }
     for (carried, crossing) in c.carried.iter_mut().zip(crossings) {
         *carried += crossing.water;

@@ -4,11 +4,12 @@ use Rattle.numbers.specs.Search.{climb, leastReaching}
 use Rattle.numbers.specs.Shares.{share, shares, rest}
 use Rattle.flux.specs.Wave.{waveSpeed}
 use Rattle.flux.specs.Crossing.{upper, lower, waterOf, waterFlux, secondMoment, momentumOf, momentumFlux}
+use Rattle.friction.specs.Friction.{cubeFits, fourThirds}
 use Rattle.figures.proofs.figures_met.Statement.{statement}
 use Rattle.figures.proofs.figures_met.Tie as tie
 
 returns : tie.Need-returns
-unfolding waveSpeed climb leastReaching waterFlux waterOf momentumFlux momentumOf secondMoment upper lower shares share rest
+unfolding fourThirds cubeFits waveSpeed climb leastReaching waterFlux waterOf momentumFlux momentumOf secondMoment upper lower shares share rest
 returns c =
     record {
       a-dry = refl;
@@ -21,6 +22,9 @@ returns c =
       W-100-000 = refl;
       shares-of-1 = refl;
       none-stays = refl;
+      r-1 = refl;
+      r-100 = refl;
+      r-400 = refl;
     }
 
 pub figures-met-spec : {M : Type 1} → statement M

@@ -46,7 +46,7 @@ returns c =
     let roomed = c .before .before .before .before in
     let called = roomed .before .before .before .before .before .before .before .before .before in
     let holding = called .before .before .before .before .before .before in
-    step-returns _ _ _ _ _ _ _ _ _ _ _ _ _ _ _ _ _ _ _ _ _ _ (holding .before .load .ensures) (holding .given-held .ensures) (called .step .ensures) (roomed .room-of .ensures) (c .before .before .store .ensures) (c .step-answer .ensures)
+    step-returns _ _ _ _ _ _ _ _ _ _ _ _ _ _ _ _ _ _ _ _ _ _ _ (holding .before .load .ensures) (holding .given-held .ensures) (called .step .ensures) (roomed .room-of .ensures) (c .before .before .store .ensures) (c .step-answer .ensures)
 
 pub jemmyfern-step-spec : {M : Type 1} → statement M
 jemmyfern-step-spec =

@@ -73,7 +73,8 @@ ps = List._∷_ (ShrSlice.pShrS (Signed.SInt Syntax.w64) 0 tt) (List._∷_ (MutS
       in-mem =
           Local.mem-whole 𝓤 H A W (Declared.row Ledger.the-type);
       of-mem = Local.whole-mem 𝓤 H A W (Declared.row Ledger.the-type);
-    }) (List._∷_ (FnKinds.pNum Syntax.w64) List.[]))))))))))
+    }) (List._∷_ (FnKinds.pNum Syntax.w64) (List._∷_ (FnKinds.pNum Syntax.w64)
+    List.[])))))))))))
 
 abbrev pub r : FnKinds.RK 7
 r = Value.rVal record {
@@ -130,40 +131,38 @@ module _ (κs : Lifetimes.Lfts 7) where
 
   abbrev pub ensures-1·read : (a : World.ArgsD jemmyfern_step.signature κs) → (g : Ghost) → (r : World.ResD jemmyfern_step.signature κs) → (s : Clauses.AtExit (FnKinds.endedOf 7 ps r-kind) κs) →
       Read.Read (Base a) (Owned r s) λ w. jemmyfern_step.ensures-1 (w .𝓤) (w .H) κs (w .𝓖 .A) (w .𝓜 .mem) (w .𝓡 .run) (a .0) (a .1 .0) (a .1 .1 .0) (a .1 .1 .1 .0) (a .1 .1 .1 .1 .0) (a .1 .1 .1 .1
-      .1 .0) (a .1 .1 .1 .1 .1 .1 .0) (a .1 .1 .1 .1 .1 .1 .1 .0) (a .1 .1 .1 .1 .1 .1 .1 .1 .0) (a .1 .1 .1 .1 .1 .1 .1 .1 .1 .0) (a .1 .1 .1 .1 .1 .1 .1 .1 .1 .1 .0) record {
-        entry = a .0;
-        exit = s
-            .0;
-      } record { entry = a .1 .0; exit = s .1 .0 } record { entry = a .1 .1 .0; exit = s .1 .1 .0 } record { entry = a .1 .1 .1 .0; exit = s .1 .1 .1 .0 } record {
-        entry = a .1 .1 .1 .1 .0;
-        exit =
-            s .1 .1 .1 .1 .0;
-      } record { entry = a .1 .1 .1 .1 .1 .0; exit = s .1 .1 .1 .1 .1 .0 } record { entry = a .1 .1 .1 .1 .1 .1 .0; exit = s .1 .1 .1 .1 .1 .1 .0 } record {
-        entry = a .1 .1 .1 .1 .1
-            .1 .1 .0;
-        exit = s .1 .1 .1 .1 .1 .1 .1 .0;
-      } record { entry = a .1 .1 .1 .1 .1 .1 .1 .1 .0; exit = s .1 .1 .1 .1 .1 .1 .1 .1 .0 } record {
-        entry = a .1 .1 .1 .1 .1 .1 .1 .1 .1 .0;
-        exit = s .1
-            .1 .1 .1 .1 .1 .1 .1 .1 .0;
-      } record { entry = a .1 .1 .1 .1 .1 .1 .1 .1 .1 .1 .0; exit = s .1 .1 .1 .1 .1 .1 .1 .1 .1 .1 .0 } r
-  ensures-1·read = λ a g r s. Read.all-models (λ w. jemmyfern_step.ensures-1 (w .𝓤) (w .H) κs (w .𝓖 .A) (w .𝓜 .mem) (w .𝓡 .run) (a .0) (a .1 .0) (a .1 .1 .0) (a .1 .1 .1 .0) (a .1 .1 .1 .1 .0) (a .1
-      .1 .1 .1 .1 .0) (a .1 .1 .1 .1 .1 .1 .0) (a .1 .1 .1 .1 .1 .1 .1 .0) (a .1 .1 .1 .1 .1 .1 .1 .1 .0) (a .1 .1 .1 .1 .1 .1 .1 .1 .1 .0) (a .1 .1 .1 .1 .1 .1 .1 .1 .1 .1 .0) record {
-        entry = a .0;
-        exit = s .0;
-      } record { entry = a .1 .0; exit = s .1 .0 } record { entry = a .1 .1 .0; exit = s .1 .1 .0 } record { entry = a .1 .1 .1 .0; exit = s .1 .1 .1 .0 } record {
-        entry = a .1 .1 .1 .1
-            .0;
-        exit = s .1 .1 .1 .1 .0;
-      } record { entry = a .1 .1 .1 .1 .1 .0; exit = s .1 .1 .1 .1 .1 .0 } record { entry = a .1 .1 .1 .1 .1 .1 .0; exit = s .1 .1 .1 .1 .1 .1 .0 } record {
+      .1 .0) (a .1 .1 .1 .1 .1 .1 .0) (a .1 .1 .1 .1 .1 .1 .1 .0) (a .1 .1 .1 .1 .1 .1 .1 .1 .0) (a .1 .1 .1 .1 .1 .1 .1 .1 .1 .0) (a .1 .1 .1 .1 .1 .1 .1 .1 .1 .1 .0) (a .1 .1 .1 .1 .1 .1 .1 .1 .1
+      .1 .1 .0) record { entry = a .0; exit = s .0 } record { entry = a .1 .0; exit = s .1 .0 } record { entry = a .1 .1 .0; exit = s .1 .1 .0 } record { entry = a .1 .1 .1 .0; exit = s .1 .1 .1 .0 }
+      record { entry = a .1 .1 .1 .1 .0; exit = s .1 .1 .1 .1 .0 } record { entry = a .1 .1 .1 .1 .1 .0; exit = s .1 .1 .1 .1 .1 .0 } record {
+        entry = a .1 .1 .1 .1 .1 .1 .0;
+        exit = s .1 .1 .1 .1 .1
+            .1 .0;
+      } record { entry = a .1 .1 .1 .1 .1 .1 .1 .0; exit = s .1 .1 .1 .1 .1 .1 .1 .0 } record { entry = a .1 .1 .1 .1 .1 .1 .1 .1 .0; exit = s .1 .1 .1 .1 .1 .1 .1 .1 .0 } record {
         entry = a .1
-            .1 .1 .1 .1 .1 .1 .0;
-        exit = s .1 .1 .1 .1 .1 .1 .1 .0;
-      } record { entry = a .1 .1 .1 .1 .1 .1 .1 .1 .0; exit = s .1 .1 .1 .1 .1 .1 .1 .1 .0 } record {
+            .1 .1 .1 .1 .1 .1 .1 .1 .0;
+        exit = s .1 .1 .1 .1 .1 .1 .1 .1 .1 .0;
+      } record { entry = a .1 .1 .1 .1 .1 .1 .1 .1 .1 .1 .0; exit = s .1 .1 .1 .1 .1 .1 .1 .1 .1 .1 .0 } record {
+        entry = a .1 .1
+            .1 .1 .1 .1 .1 .1 .1 .1 .1 .0;
+        exit = s .1 .1 .1 .1 .1 .1 .1 .1 .1 .1 .1 .0;
+      } r
+  ensures-1·read = λ a g r s. Read.all-models (λ w. jemmyfern_step.ensures-1 (w .𝓤) (w .H) κs (w .𝓖 .A) (w .𝓜 .mem) (w .𝓡 .run) (a .0) (a .1 .0) (a .1 .1 .0) (a .1 .1 .1 .0) (a .1 .1 .1 .1 .0) (a .1
+      .1 .1 .1 .1 .0) (a .1 .1 .1 .1 .1 .1 .0) (a .1 .1 .1 .1 .1 .1 .1 .0) (a .1 .1 .1 .1 .1 .1 .1 .1 .0) (a .1 .1 .1 .1 .1 .1 .1 .1 .1 .0) (a .1 .1 .1 .1 .1 .1 .1 .1 .1 .1 .0) (a .1 .1 .1 .1 .1 .1
+      .1 .1 .1 .1 .1 .0) record { entry = a .0; exit = s .0 } record { entry = a .1 .0; exit = s .1 .0 } record { entry = a .1 .1 .0; exit = s .1 .1 .0 } record {
+        entry = a .1 .1 .1 .0;
+        exit = s .1
+            .1 .1 .0;
+      } record { entry = a .1 .1 .1 .1 .0; exit = s .1 .1 .1 .1 .0 } record { entry = a .1 .1 .1 .1 .1 .0; exit = s .1 .1 .1 .1 .1 .0 } record {
+        entry = a .1 .1 .1 .1 .1 .1 .0;
+        exit = s .1
+            .1 .1 .1 .1 .1 .0;
+      } record { entry = a .1 .1 .1 .1 .1 .1 .1 .0; exit = s .1 .1 .1 .1 .1 .1 .1 .0 } record { entry = a .1 .1 .1 .1 .1 .1 .1 .1 .0; exit = s .1 .1 .1 .1 .1 .1 .1 .1 .0 } record {
         entry = a .1 .1 .1 .1 .1 .1 .1 .1 .1 .0;
         exit = s .1 .1 .1 .1 .1 .1 .1 .1 .1 .0;
-      } record { entry = a .1 .1 .1 .1 .1 .1 .1 .1 .1 .1 .0; exit = s .1 .1 .1 .1 .1 .1 .1 .1 .1 .1 .0 } r) (λ w. Read.r-last _) (λ w. Path'.refl) (λ w.
-      Path'.refl) λ w. Path'.refl
+      } record { entry = a .1 .1 .1 .1 .1 .1 .1 .1 .1 .1 .0; exit = s .1 .1 .1 .1 .1 .1 .1 .1 .1 .1 .0 } record {
+        entry = a .1 .1 .1 .1 .1 .1 .1 .1 .1 .1 .1 .0;
+        exit = s .1 .1 .1 .1 .1 .1 .1 .1 .1 .1 .1 .0;
+      } r) (λ w. Read.r-last _) (λ w. Path'.refl) (λ w. Path'.refl) λ w. Path'.refl
 
   abbrev pub post-read : (a : World.ArgsD jemmyfern_step.signature κs) → (g : Ghost) → (r : World.ResD jemmyfern_step.signature κs) → (s : Clauses.AtExit (FnKinds.endedOf 7 ps r-kind) κs) → Read.Read
       (Base a) (Owned r s) (ensures a g r s)

@@ -65,11 +65,11 @@ returns c =
     let s = reach k in
     let t = start k .args .t in
     let e = c .before .before .before .before .before .before .before .before .before .before .before .step .ensures .refusal-is in
-    let n : step s t .refusal ≡ 0 → ⊥ = λ z. c .if1 .taken (e ∙ z) in
+    let n : step s t 0 .refusal ≡ 0 → ⊥ = λ z. c .if1 .taken (e ∙ z) in
     let o = k .loop .inv .1 ∙ steps-stop (start k .args .count) (k .loop .i) t s (c .before .before .before .before .before .before .before .before .before .before .before .before .before .before .before .before .before .loop-test .taken) n in
     record {
       refusal-is = e ∙ ap (λ (o : Outcome). o .refusal) (sym o);
-      reach-is = left-by-step s t (c .before .before .before .before .before .before .before .before .before .before .before .step .ensures) ∙ ap (λ (o : Outcome). o .reach) (sym o);
+      reach-is = left-by-step s t 0 (c .before .before .before .before .before .before .before .before .before .before .before .step .ensures) ∙ ap (λ (o : Outcome). o .reach) (sym o);
     }
 
 add-i : tie.Need-add-i Inv-loop μ-loop
@@ -87,7 +87,7 @@ loop-again c =
     let f = c .before .before .before .before .before .before .before .before .before .before .before .step in
     let e = sym (f .ensures .refusal-is) ∙ c .if1 .left in (
       omega (arith, l),
-      k .loop .inv .1 ∙ steps-on (start k .args .count) (k .loop .i) t s _ l e (left-by-step s t (f .ensures)),
+      k .loop .inv .1 ∙ steps-on (start k .args .count) (k .loop .i) t s _ l e (left-by-step s t 0 (f .ensures)),
       f .kept .1 .0 ∙ k .loop .inv .2,
       f .kept .1 .1 .0 ∙ k .loop .inv .3,
       f .kept .1 .1 .1 .0 ∙ k .loop .inv .4,

@@ -10,6 +10,7 @@ use Rattle.flux.specs.Crossing.{upper, lower, waterOf, waterFlux, secondMoment,
 use Rattle.flux.specs.Interface.{reducedDepth, leftDepth, rightDepth, netWater, momentumSum, mirrored}
 use Rattle.flux.specs.Velocity.{velocity}
 use Rattle.flux.specs.Wave.{waveSpeed}
+use Rattle.friction.specs.Friction.{stricklerFits, slowed}
 use Rattle.cfl.specs.Cfl.{signalSpeed, speedAt, meetsCfl, greatestStep, fastestPlace}
 use Rattle.mass.specs.Transport.{cellShares, rightwards, leftwards, movedCell, movedOutlet, movedOutlets}
 use Rattle.reach.specs.Parts.{parts, outflow}
@@ -27,15 +28,15 @@ use Rattle.worked.proofs.grounds_worked.Statement.{statement}
 use Rattle.worked.proofs.grounds_worked.Tie as tie
 
 returns : tie.Need-returns
-unfolding allOf allBelow tabulate sum climb leastReaching share shares rest maxℤ eqℤ upper lower waterOf waterFlux secondMoment momentumOf momentumFlux stillThrust reducedDepth leftDepth rightDepth netWater momentumSum mirrored velocity waveSpeed signalSpeed speedAt meetsCfl greatestStep fastestPlace cellShares rightwards leftwards movedCell parts outflow firstRefusal lengthsFit cellLengthFits wallFits openFits fedFits kindFits boundaryFits boundariesFit cellFits cellsFit carriedFits carriedCellsFit shutFits carriedFit totalsFit ledgerFits enteringLeft enteringRight withMass ledgerWith transportLedger afterTransport holding setBoundaries transport sideSpeed cellSide boundarySide leftSide rightSide netAt momentumAt ownLeft ownRight newDepth pushed nearest newDischarge boundarySpeed leftSpeed rightSpeed placeSpeed greatestTime greatestPlace greatest summed keepsSums transportedFirst withWater withBoundaryWater stepLedger afterStep timeFits depthsFit step numberAt twosIn twos columnAt sheetSize boundaryAt boundariesOf editionFits sizeFits inside apart apartFrom columnsClear spansOf sheetRecord lentFit opening noneCarried roomFits writeRefusal movedOutlet movedOutlets outletFits outletsFit outletTotalsFit allTotalsFit transportOutlets transportHeld available draws drawOf undrawnDepth summedDrawn steppedOutlet stepOutlets stepHeld fromCell eachOutlet floors unitsLeft hasUnit handed dealt noneDrawn cleared
+unfolding allOf allBelow tabulate sum climb leastReaching share shares rest maxℤ eqℤ upper lower waterOf waterFlux secondMoment momentumOf momentumFlux stillThrust reducedDepth leftDepth rightDepth netWater momentumSum mirrored velocity waveSpeed signalSpeed speedAt meetsCfl greatestStep fastestPlace cellShares rightwards leftwards movedCell parts outflow firstRefusal lengthsFit cellLengthFits wallFits openFits fedFits kindFits boundaryFits boundariesFit cellFits cellsFit carriedFits carriedCellsFit shutFits carriedFit totalsFit ledgerFits enteringLeft enteringRight withMass ledgerWith transportLedger afterTransport holding setBoundaries transport sideSpeed cellSide boundarySide leftSide rightSide netAt momentumAt ownLeft ownRight newDepth pushed nearest newDischarge boundarySpeed leftSpeed rightSpeed placeSpeed greatestTime greatestPlace greatest summed keepsSums transportedFirst withWater withBoundaryWater stepLedger afterStep timeFits depthsFit stricklerFits slowed step numberAt twosIn twos columnAt sheetSize boundaryAt boundariesOf editionFits sizeFits inside apart apartFrom columnsClear spansOf sheetRecord lentFit opening noneCarried roomFits writeRefusal movedOutlet movedOutlets outletFits outletsFit outletTotalsFit allTotalsFit transportOutlets transportHeld available draws drawOf undrawnDepth summedDrawn steppedOutlet stepOutlets stepHeld fromCell eachOutlet floors unitsLeft hasUnit handed dealt noneDrawn cleared
 returns c =
     record {
       open-numbers = λ s z h q m b c os. refl;
       record-numbers = λ s es. refl;
-      step-numbers = λ s t. refl;
+      step-numbers = λ s t F. refl;
       transport-numbers = λ s es. refl;
       write-numbers = λ s room. refl;
-      step-begins = λ s t. refl;
+      step-begins = λ s t F. refl;
       transport-begins = λ s es. refl;
       write-begins = λ s room. refl;
       step-foot = refl;
@@ -47,10 +48,16 @@ returns c =
       step-8 = refl;
       step-9 = refl;
       step-10 = refl;
+      step-17 = refl;
       step-11 = refl;
       step-12 = refl;
       step-13 = refl;
       step-0 = refl;
+      strickler-none = refl;
+      strickler-9 = refl;
+      strickler-10 = refl;
+      strickler-90 = refl;
+      strickler-91 = refl;
       greatest-9 = refl;
       greatest-0 = refl;
       setting-5 = refl;

@@ -10,6 +10,7 @@ use Rattle.flux.specs.Crossing.{upper, lower, waterOf, waterFlux, secondMoment,
 use Rattle.flux.specs.Interface.{reducedDepth, leftDepth, rightDepth, netWater, momentumSum, mirrored}
 use Rattle.flux.specs.Velocity.{velocity}
 use Rattle.flux.specs.Wave.{waveSpeed}
+use Rattle.friction.specs.Friction.{stricklerFits, slowed}
 use Rattle.cfl.specs.Cfl.{signalSpeed, speedAt, meetsCfl}
 use Rattle.mass.specs.Transport.{cellShares, rightwards, leftwards, movedCell, movedOutlet, movedOutlets}
 use Rattle.reach.specs.Parts.{parts, outflow}
@@ -23,7 +24,7 @@ use Rattle.worked_runs.proofs.draws_worked.Statement.{statement}
 use Rattle.worked_runs.proofs.draws_worked.Tie as tie
 
 returns : tie.Need-returns
-unfolding allOf allBelow tabulate sum climb leastReaching share shares rest maxℤ eqℤ upper lower waterOf waterFlux secondMoment momentumOf momentumFlux stillThrust reducedDepth leftDepth rightDepth netWater momentumSum mirrored velocity waveSpeed signalSpeed speedAt meetsCfl cellShares rightwards leftwards movedCell parts outflow firstRefusal lengthsFit cellLengthFits wallFits openFits fedFits kindFits boundaryFits boundariesFit cellFits cellsFit carriedFits carriedCellsFit shutFits carriedFit totalsFit ledgerFits enteringLeft enteringRight withMass ledgerWith transportLedger afterTransport sideSpeed cellSide boundarySide leftSide rightSide netAt momentumAt ownLeft ownRight newDepth pushed nearest newDischarge boundarySpeed leftSpeed rightSpeed placeSpeed summed keepsSums transportedFirst withWater withBoundaryWater stepLedger afterStep timeFits depthsFit step transports movedOutlet movedOutlets outletFits outletsFit outletTotalsFit allTotalsFit transportOutlets transportHeld available draws drawOf undrawnDepth summedDrawn steppedOutlet stepOutlets stepHeld fromCell eachOutlet floors unitsLeft hasUnit handed dealt
+unfolding allOf allBelow tabulate sum climb leastReaching share shares rest maxℤ eqℤ upper lower waterOf waterFlux secondMoment momentumOf momentumFlux stillThrust reducedDepth leftDepth rightDepth netWater momentumSum mirrored velocity waveSpeed signalSpeed speedAt meetsCfl cellShares rightwards leftwards movedCell parts outflow firstRefusal lengthsFit cellLengthFits wallFits openFits fedFits kindFits boundaryFits boundariesFit cellFits cellsFit carriedFits carriedCellsFit shutFits carriedFit totalsFit ledgerFits enteringLeft enteringRight withMass ledgerWith transportLedger afterTransport sideSpeed cellSide boundarySide leftSide rightSide netAt momentumAt ownLeft ownRight newDepth pushed nearest newDischarge boundarySpeed leftSpeed rightSpeed placeSpeed summed keepsSums transportedFirst withWater withBoundaryWater stepLedger afterStep timeFits depthsFit stricklerFits slowed step transports movedOutlet movedOutlets outletFits outletsFit outletTotalsFit allTotalsFit transportOutlets transportHeld available draws drawOf undrawnDepth summedDrawn steppedOutlet stepOutlets stepHeld fromCell eachOutlet floors unitsLeft hasUnit handed dealt
 returns c =
     record {
       can-give-0 = refl;

@@ -17,6 +17,7 @@ canal makes sheets of a canal reach, says what they hold, runs and draws them.
       --outlets LIST           outlets along the reach that draw water from it
       --out SHEET              write the sheet as it is after the run
       --step MS                steps of MS milliseconds (default: the greatest allowed)
+      --friction F             Strickler coefficient, 10 to 90 (default: 0, no friction)
       --quiet                  no report
   canal plot SHEET OUT.svg     draw depth over bed, discharge, concentration
   canal help | --version
@@ -24,6 +25,10 @@ canal makes sheets of a canal reach, says what they hold, runs and draws them.
 A file named - is standard input or output. TIME is 90s, 15min, 2h, 1d, 250ms,
 1h30min, or a plain number of seconds. Cells are counted from 0. The greatest step is
 told with where the water is fastest: among equals the highest place, furthest right.
+
+F is in m^(1/3)/s, and great is smooth: concrete has about 60 to 80, earth about 30 to
+40, a bed full of weeds about 15 to 25. Without friction water on a slope only speeds
+up. With it a cell under 1 cm deep has no discharge after a step.
 
 A table:
 
@@ -69,6 +74,8 @@ pub struct Run {
     pub out: Option<Place>,
     /// ms
     pub step: Option<u64>,
+    /// m^(1/3)/s; 0 is no friction
+    pub strickler: u64,
     pub quiet: bool,
 }
 
@@ -92,7 +99,9 @@ fn usage_line(command: &str) -> String {
     let wanted = match command {
         "make" => "TABLE SHEET",
         "show" | "inspect" => "SHEET",
-        "run" => "SHEET --for TIME [--outlets LIST] [--out SHEET] [--step MS] [--quiet]",
+        "run" => {
+            "SHEET --for TIME [--outlets LIST] [--out SHEET] [--step MS] [--friction F] [--quiet]"
+        }
         "plot" => "SHEET OUT.svg",
         _ => return String::new(),
     };
@@ -168,7 +177,7 @@ fn unknown(command: &str, argument: &OsString) -> Failure {
 }
 
 fn run(mut rest: VecDeque<OsString>) -> Result<Run, Failure> {
-    let (mut time, mut step, mut quiet) = (None, None, false);
+    let (mut time, mut step, mut strickler, mut quiet) = (None, None, None, false);
     let (mut outlets, mut out) = (None, None);
     let mut places = VecDeque::new();
     while let Some(argument) = rest.pop_front() {
@@ -186,6 +195,7 @@ fn run(mut rest: VecDeque<OsString>) -> Result<Run, Failure> {
             "--outlets" => once(&option, &mut outlets, Place::from(value()?))?,
             "--out" => once(&option, &mut out, Place::from(value()?))?,
             "--step" => once(&option, &mut step, step_of(value()?)?)?,
+            "--friction" => once(&option, &mut strickler, strickler_of(value()?)?)?,
             "--quiet" | "-q" if attached.is_none() => quiet = true,
             _ => return Err(unknown("run", &argument)),
         }
@@ -201,6 +211,7 @@ fn run(mut rest: VecDeque<OsString>) -> Result<Run, Failure> {
         outlets,
         out,
         step,
+        strickler: strickler.unwrap_or(0),
         quiet,
     })
 }
@@ -247,4 +258,11 @@ fn step_of(value: OsString) -> Result<u64, Failure> {
             "--step: '{text}' is not a whole number of ms in 1..1000"
         ))
     })
+}
+
+/// Whether it is one that a bed has is the library's to say.
+fn strickler_of(value: OsString) -> Result<u64, Failure> {
+    let text = value.to_string_lossy();
+    let words = format!("--friction: '{text}' is not a whole number, 0 or 10 to 90");
+    text.parse().map_err(|_| Failure::Usage(words))
 }

@@ -6,7 +6,7 @@ use super::files::{say, Place};
 use super::progress::Progress;
 use canal::balance::{Balance, Held};
 use canal::describe::{describe, place};
-use canal::explain::{explain, explain_outlets, refused};
+use canal::explain::{explain, explain_outlets, explain_strickler, refused};
 use canal::outlets::{self, List};
 use canal::record::Record;
 use canal::run::{Made, Stopped};
@@ -64,9 +64,11 @@ pub fn run(run: &Run) -> Result<(), Failure> {
     let mut record = open_with(&run.sheet, run.outlets.as_ref())?;
     let before = Held::by(&record);
     let mut progress = Progress::new(run.time, run.quiet);
-    let made = runs::run(&mut record, run.time, run.step, |made| progress.show(made));
+    let (time, strickler) = (run.time, run.strickler);
+    let show = |made: &Made| progress.show(made);
+    let made = runs::run(&mut record, time, run.step, strickler, show);
     progress.clear();
-    let made = made.map_err(|stopped| Failure::Wrong(stop(&run.sheet, &stopped, &record)))?;
+    let made = made.map_err(|stopped| Failure::Wrong(stop(run, &stopped, &record)))?;
     let balance = Balance::of(before, &record);
     if let Some(out) = &run.out {
         let sheet = record.to_sheet().map_err(|r| refusal(&run.sheet, r))?;
@@ -76,7 +78,10 @@ pub fn run(run: &Run) -> Result<(), Failure> {
         [] => String::new(),
         outlets => format!("\n{}", outlets::drawn(outlets, record.cell_length)),
     };
-    let reported = report(run, &format!("{}{balance}{drawn}", made_line(&made)));
+    let reported = report(
+        run,
+        &format!("{}{balance}{drawn}", made_line(&made, strickler)),
+    );
     match balance.closes() {
         true => reported,
         false => Err(Failure::Wrong("the balance does not close".into())),
@@ -95,14 +100,21 @@ fn report(run: &Run, words: &str) -> Result<(), Failure> {
     say(words)
 }
 
-fn made_line(made: &Made) -> String {
+fn made_line(made: &Made, strickler: u64) -> String {
     let (time, steps) = (seconds(made.time), counted(made.steps, "step"));
     let transports = counted(made.transports, "transport");
-    format!("{time} s of canal time: {steps}, {transports} (the last one at the end)\n")
+    let friction = match strickler {
+        0 => String::new(),
+        f => format!(" with friction, Strickler coefficient {f} m^(1/3)/s"),
+    };
+    format!("{time} s of canal time{friction}: {steps}, {transports} (the last one at the end)\n")
 }
 
-fn stop(sheet: &Place, stopped: &Stopped, record: &Record) -> String {
-    let made = &stopped.made;
+fn stop(run: &Run, stopped: &Stopped, record: &Record) -> String {
+    if stopped.refusal == Refusal::Strickler {
+        return no_strickler(run.strickler);
+    }
+    let (sheet, made) = (&run.sheet, &stopped.made);
     let (refusal, time) = (stopped.refusal, seconds(made.time));
     let steps = counted(made.steps, "step");
     let why = match refusal {
@@ -173,6 +185,13 @@ fn read_list(place: &Place) -> Result<List, Failure> {
 fn no_list(sheet: &[u8], list: &List) -> String {
     let explanation = explain_outlets(list, cells_in(sheet));
     explanation.map_or(Refusal::Outlets.to_string(), |e| e.to_string())
+}
+
+/// The sheet has no part in it.
+fn no_strickler(strickler: u64) -> String {
+    let explanation = explain_strickler(strickler);
+    let words = explanation.map_or(Refusal::Strickler.to_string(), |e| e.to_string());
+    format!("--friction: {words}")
 }
 
 /// What is wrong with the bytes. A table is easily given in the place of its sheet.

@@ -1,4 +1,4 @@
-//! What is wrong with a refused sheet or list of outlets, in words. The ground is the library's to say; this looks for what is broken at it.
+//! What is wrong with a refused sheet, list of outlets or Strickler coefficient, in words. The ground is the library's to say; this looks for what is broken at it.
 
 mod rules;
 
@@ -17,7 +17,7 @@ pub struct Fault {
     pub words: String,
 }
 
-/// The first ground that a sheet does not stand, and all that is wrong at it.
+/// The first ground that was not stood, and all that is wrong at it.
 #[derive(Clone, Debug, PartialEq)]
 pub struct Explanation {
     pub ground: Refusal,
@@ -67,6 +67,17 @@ pub fn explain_outlets(list: &List, cells: usize) -> Option<Explanation> {
     }
     let ground = Refusal::Outlets;
     (!faults.is_empty()).then_some(Explanation { ground, faults })
+}
+
+/// What is wrong with the Strickler coefficient of a step (ground 17); None of a sound one.
+pub fn explain_strickler(strickler: u64) -> Option<Explanation> {
+    let range = (STRICKLER_LEAST.into(), STRICKLER_MOST.into());
+    let words = outside("Strickler coefficient", strickler.into(), range);
+    let words = words.filter(|_| strickler != 0)?;
+    Some(Explanation {
+        ground: Refusal::Strickler,
+        faults: vec![fault(words)],
+    })
 }
 
 /// The lines to say of a sheet that the library refused.

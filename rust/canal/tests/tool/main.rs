@@ -2,6 +2,7 @@
 
 mod explain;
 mod files;
+mod friction;
 mod inspect;
 mod make;
 mod outlets;

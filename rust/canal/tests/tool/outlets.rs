@@ -202,7 +202,7 @@ fn drawn_from() -> Record {
 fn the_balance_counts_what_was_drawn() {
     let mut record = drawn_from();
     let before = Held::by(&record);
-    let made = run(&mut record, 60_000, None, |_| ()).expect("it runs");
+    let made = run(&mut record, 60_000, None, 0, |_| ()).expect("it runs");
     assert!(record.outlets.iter().all(|o| o.drawn == 0 && o.mass > 0));
     assert_eq!(record.outlets[0].water, 2_000 * made.steps);
     assert!(record.outlets[2].water > 500 * made.steps);
@@ -346,7 +346,7 @@ fn the_cell_that_overflows_with_outlets() {
     for (want, cell) in [(0, 4), (50_000, 4), (2_000_000, 0)] {
         let mut drawn = record.clone();
         drawn.outlets = vec![Outlet::new(4, want)];
-        let stopped = run(&mut drawn, 1_000, None, |_| ()).expect_err("it stops");
+        let stopped = run(&mut drawn, 1_000, None, 0, |_| ()).expect_err("it stops");
         assert_eq!((stopped.refusal, stopped.made.steps), (Refusal::Depth, 0));
         assert_eq!(fills_most(&drawn, stopped.step), Some(cell), "{want}");
     }

@@ -132,7 +132,7 @@ fn greatest_steps_end_exactly_on_time() {
     let mut record = flowing();
     let before = Held::by(&record);
     let mut times = vec![0];
-    let made = run(&mut record, 12_345, None, |made| times.push(made.time)).expect("it runs");
+    let made = run(&mut record, 12_345, None, 0, |made| times.push(made.time)).expect("it runs");
     assert_eq!((made.time, made.steps), (12_345, times.len() as u64 - 1));
     assert!((1..=made.steps + 1).contains(&made.transports));
     assert!(record.carried.iter().all(|&c| c == 0));
@@ -153,7 +153,7 @@ fn greatest_steps_end_exactly_on_time() {
 fn a_balance_that_is_off_by_one_does_not_close() {
     let mut record = flowing();
     let before = Held::by(&record);
-    run(&mut record, 5_000, Some(50), |_| ()).expect("it runs");
+    run(&mut record, 5_000, Some(50), 0, |_| ()).expect("it runs");
     let balance = Balance::of(before, &record);
     assert!(balance.closes());
     let mut water = balance;
@@ -215,7 +215,7 @@ fn a_reach_that_overflows_stops_where_it_does() {
     let answer = fed(&["run", "-", "--for", "1h"], &record.draft_sheet());
     assert_eq!(answer.status, 1);
     assert!(answer.errors.contains("refused 12: "), "{}", answer.errors);
-    let stopped = run(&mut record, 3_600_000, None, |_| ()).expect_err("it stops");
+    let stopped = run(&mut record, 3_600_000, None, 0, |_| ()).expect_err("it stops");
     assert_eq!(stopped.refusal, Refusal::Depth);
     let (step, depth) = (stopped.step, record.depth[0]);
     let words = format!(
@@ -231,7 +231,7 @@ fn the_cell_that_overflows_is_not_the_deepest_before() {
     record.depth = vec![0, 3_900_000, 3_000_000, 3_000_000];
     record.discharge = vec![0, 0, 24_000_000_000, 24_000_000_000];
     record.base = record.depth.clone();
-    let stopped = run(&mut record, 1_000, None, |_| ()).expect_err("it stops");
+    let stopped = run(&mut record, 1_000, None, 0, |_| ()).expect_err("it stops");
     assert_eq!((stopped.refusal, stopped.made.steps), (Refusal::Depth, 0));
     assert_eq!(fills_most(&record, stopped.step), Some(3));
 }

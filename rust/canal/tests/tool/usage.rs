@@ -20,6 +20,7 @@ fn help_is_no_failure() {
         assert!(answer.errors.is_empty());
         assert!(answer.text().contains("canal run SHEET --for TIME"));
         assert!(answer.text().contains("among equals the highest place"));
+        assert!(answer.text().contains("--friction F "));
         assert!(answer.text().lines().all(|l| l.len() <= 90));
     }
     assert!(call(&["--version"]).text().starts_with("canal "));
@@ -27,7 +28,7 @@ fn help_is_no_failure() {
 
 #[test]
 fn wrong_arguments() {
-    let cases: [(&[&str], &str); 19] = [
+    let cases: [(&[&str], &str); 24] = [
         (&["swim"], "there is no command 'swim'"),
         (&["make", "a"], "make wants TABLE SHEET"),
         (&["show"], "show wants SHEET"),
@@ -51,6 +52,26 @@ fn wrong_arguments() {
             "'0' is not a whole number of ms",
         ),
         (&["run", "a", "--for", "1h", "--step", "1001"], "in 1..1000"),
+        (
+            &["run", "a", "--for", "1h", "--friction"],
+            "--friction wants a value",
+        ),
+        (
+            &["run", "a", "--for", "1h", "--friction", "rough"],
+            "--friction: 'rough' is not a whole number, 0 or 10 to 90",
+        ),
+        (
+            &["run", "a", "--for", "1h", "--friction=-30"],
+            "'-30' is not a whole number",
+        ),
+        (
+            &["run", "a", "--for", "1h", "--friction=32.5"],
+            "'32.5' is not a whole number",
+        ),
+        (
+            &["run", "a", "--friction=30", "--for=1h", "--friction=30"],
+            "--friction is given twice",
+        ),
         (
             &["run", "a", "--for", "1h", "--fast"],
             "run does not know the option --fast",
@@ -87,7 +108,7 @@ fn usage_line(command: &str) -> &'static [&'static str] {
         "make" => &["usage: canal make TABLE SHEET"],
         "show" => &["usage: canal show SHEET"],
         "inspect" => &["usage: canal inspect SHEET"],
-        "run" => &["usage: canal run SHEET --for TIME [--outlets LIST] [--out SHEET] [--step MS] [--quiet]"],
+        "run" => &["usage: canal run SHEET --for TIME [--outlets LIST] [--out SHEET] [--step MS] [--friction F] [--quiet]"],
         "plot" => &["usage: canal plot SHEET OUT.svg"],
         _ => &[],
     }

@@ -1,8 +1,9 @@
 //! A season of steps on both implementations, every call compared: a small reach for a long time, the longest reach for a shorter one, both without
-//! outlets and with some, then the same with the record damaged between calls, as memory in the field may be. Optional: it takes minutes.
+//! outlets and with some, without friction and with it by turns, then the same with the record damaged between calls, as memory in the field may be.
+//! Optional: it takes minutes.
 
 use agreement::both::{broken, fresh, same, Call, WALL};
-use reference::random::{Random, Record};
+use reference::random::{strickler, Random, Record};
 use reference::record::{End, FED, OPEN};
 use reference::Outlet;
 use std::collections::BTreeMap;
@@ -60,14 +61,22 @@ fn want(r: &mut Random) -> u64 {
     r.pick(&[0, some, some, some])
 }
 
-/// So many steps of the greatest length, with another head and other wants every thousand steps. With `damage` every hundred steps a call on the
-/// record damaged in each way of grounds 4 to 9 and 16; then the damage is mended.
+/// Strickler's coefficient as weeds grow and are mown, or none. A bed rougher than these slows the canal until a low head turns the flow; then water
+/// comes in at the open tail, the more the faster, by the paper's rules, until 12 stops it.
+fn coefficient(r: &mut Random) -> u64 {
+    let some = 40 + r.below(51);
+    r.pick(&[0, some, some, some])
+}
+
+/// So many steps of the greatest length, with another head, other wants and another coefficient every thousand steps. With `damage` every hundred
+/// steps a call on the record damaged in each way of grounds 4 to 9 and 16; then the damage is mended.
 fn season(cells: usize, outlets: usize, steps: u64, damage: bool) {
     let mut r = Random::new(97);
     let mut record = canal(&mut r, cells);
     record.outlets = (0..outlets)
         .map(|_| Outlet::new(r.below(cells as u64), want(&mut r)))
         .collect();
+    let mut rough = coefficient(&mut r);
     let mut season = Season::default();
     let begun = Instant::now();
     for k in 0..steps {
@@ -78,15 +87,17 @@ fn season(cells: usize, outlets: usize, steps: u64, damage: bool) {
                 .outlets
                 .iter_mut()
                 .for_each(|o| o.want = want(&mut r));
+            rough = coefficient(&mut r);
         }
         if damage && k % 100 == 50 {
             for mut b in broken(&mut r, &record) {
-                let call = r.pick(&[Call::Step(1), Call::Transport, Call::Greatest]);
+                let step = Call::Step(1, strickler(&mut r));
+                let call = r.pick(&[step, Call::Transport, Call::Greatest]);
                 assert_eq!(season.call(call, &mut b.record), b.ground);
             }
         }
         let t = agreement::calls::greatest_step(&record).t;
-        assert_eq!(season.call(Call::Step(t), &mut record), 0);
+        assert_eq!(season.call(Call::Step(t, rough), &mut record), 0);
     }
     assert_eq!(season.call(Call::Transport, &mut record), 0);
     let drawn: u64 = record.outlets.iter().map(|o| o.water).sum();

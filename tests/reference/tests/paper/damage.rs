@@ -2,7 +2,8 @@
 
 use reference::random::{
     any_record, cell_count, damage_columns, damage_list, damage_record, damage_sheet, kinds,
-    lend_outlets, outlets_for_opening, record_of, sheet, sheet_of, Random, COLUMN_ORDERS,
+    lend_outlets, outlets_for_opening, record_of, sheet, sheet_of, strickler, Random,
+    COLUMN_ORDERS,
 };
 use reference::{greatest_step, open, set_ends, settle, step, write, Book, Columns, End};
 
@@ -19,10 +20,11 @@ fn damaged_record_is_refused_by_every_call() {
         let (x, ends, book) = (record.x, record.ends, record.book);
         let (mut c, mut outlets) = (record.columns.clone(), record.outlets.clone());
         let mut out = vec![1; 12_400];
+        let f = strickler(&mut r);
         let refusals = [
             greatest_step(&c, &outlets, x, ends, book).refusal,
             write(&c, &outlets, x, ends, book, &mut out).refusal,
-            step(&mut c, &mut outlets, x, ends, book, 1).refusal,
+            step(&mut c, &mut outlets, x, ends, book, 1, f).refusal,
             settle(&mut c, &mut outlets, x, ends, book).refusal,
             set_ends(&mut c, &mut outlets, x, ends, book, [End::default(); 2]).refusal,
         ];

@@ -63,6 +63,7 @@ fn greatest_step_is_the_last_that_is_not_11() {
                 lent.ends,
                 lent.book,
                 tried,
+                0,
             );
             assert_eq!(answer.refusal == 11, tried > t, "t {tried}, greatest {t}");
             if answer.refusal == 0 {

@@ -13,6 +13,7 @@ use crate::support::{draw, fed_end, open_end, record};
 pub struct Case {
     pub record: Record,
     pub t: u64,
+    pub strickler: u64,
     pub new_ends: [End; 2],
     pub out: Vec<u8>,
 }
@@ -30,17 +31,18 @@ pub fn sound() -> Case {
     Case {
         record,
         t: 100,
+        strickler: 30,
         new_ends: [open_end(1), fed_end(4, 9, 2)],
         out: vec![0xA5; 80 + 24 * 3],
     }
 }
 
-/// Turn of a ground in checking order: 16 is "checked after 7".
+/// Turn of a ground in checking order: 16 is "checked after 7", 17 "after 10".
 pub fn turn(ground: u32) -> u32 {
-    if ground == 16 {
-        turn(7) + 1
-    } else {
-        2 * ground
+    match ground {
+        16 => turn(7) + 1,
+        17 => turn(10) + 1,
+        _ => 2 * ground,
     }
 }
 
@@ -73,10 +75,13 @@ fn check(call: fn(&mut Case) -> u32, mut case: Case, ground: u32, name: &str) {
 }
 
 #[test]
-fn step_refuses_by_4_to_13() {
+fn step_refuses_by_4_to_13_and_17() {
     let mut breaks = record_breaks();
     for t in [0, 1_001, (1 << 32) + 100, u64::MAX] {
         add(&mut breaks, 10, "t", move |case| case.t = t);
+    }
+    for f in [1, 9, 91, (1 << 32) + 30, u64::MAX] {
+        add(&mut breaks, 17, "F", move |case| case.strickler = f);
     }
     add(&mut breaks, 11, "fast cell", |case| {
         let c = &mut case.record.columns;
@@ -98,7 +103,8 @@ fn step_refuses_by_4_to_13() {
     check_all(
         |case| {
             let r = &mut case.record;
-            let answer = step(&mut r.columns, &mut r.outlets, r.x, r.ends, r.book, case.t);
+            let (t, f) = (case.t, case.strickler);
+            let answer = step(&mut r.columns, &mut r.outlets, r.x, r.ends, r.book, t, f);
             let refusal = answer.refusal;
             let blank = StepAnswer {
                 refusal,

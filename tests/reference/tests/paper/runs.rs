@@ -1,12 +1,12 @@
 //! Random runs of mixed calls: totals and bounds.
 
 use reference::random::{
-    any_record, cell_count, damage_end, damage_record, end, record_of, sheet_of, Random, Record,
-    COLUMN_ORDERS,
+    any_record, cell_count, damage_end, damage_record, end, record_of, sheet_of, strickler, Random,
+    Record, COLUMN_ORDERS,
 };
 use reference::{greatest_step, set_ends, write, Book, Columns, End, Outlet};
 
-use crate::support::{settle, step};
+use crate::support::{rough_step, settle, step};
 
 /// What must stay the same, whatever the calls: held, less what came in, plus what went out at the
 /// ends and to outlets.
@@ -122,7 +122,7 @@ pub fn random_call(r: &mut Random, record: &mut Record, bounds: &mut Bounds, tal
                 1 => t,
                 _ => 1 + r.below(t),
             };
-            let answer = step(record, t);
+            let answer = rough_step(record, t, strickler(r));
             tally.steps += u32::from(answer.refusal == 0);
             tally.settled += u32::from(answer.settled);
             answer.refusal
@@ -290,7 +290,7 @@ fn no_values_make_a_call_panic() {
             record.book,
             &mut out,
         );
-        step(&mut record.clone(), t);
+        rough_step(&mut record.clone(), t, strickler(&mut r));
         settle(&mut record.clone());
         let (c, outlets) = (&mut record.columns.clone(), &mut record.outlets.clone());
         let _ = set_ends(c, outlets, record.x, record.ends, record.book, given);

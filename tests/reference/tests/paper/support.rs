@@ -62,8 +62,13 @@ pub fn draw(record: &mut Record, k: usize, water: u64) {
     record.columns.depth[outlet.place()] -= water;
 }
 
-/// Steps and holds the book handed back.
+/// Steps without friction and holds the book handed back.
 pub fn step(record: &mut Record, t: u64) -> StepAnswer {
+    rough_step(record, t, 0)
+}
+
+/// Steps over a bed of this coefficient and holds the book handed back.
+pub fn rough_step(record: &mut Record, t: u64, strickler: u64) -> StepAnswer {
     let answer = reference::step(
         &mut record.columns,
         &mut record.outlets,
@@ -71,6 +76,7 @@ pub fn step(record: &mut Record, t: u64) -> StepAnswer {
         record.ends,
         record.book,
         t,
+        strickler,
     );
     record.book = answer.book;
     answer

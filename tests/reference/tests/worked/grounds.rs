@@ -1,7 +1,7 @@
 use reference::random::Record;
 use reference::{greatest_step, open, set_ends, write, Columns, End};
 
-use crate::{book, columns, settle, step, WALL};
+use crate::{book, columns, rough_step, settle, WALL};
 
 const MOST_TOTAL: u64 = 1_000_000_000_000_000_000;
 
@@ -40,7 +40,8 @@ fn grain_in(total: u64) -> Record {
 /// All is wrong at its foot, and each rung has mended one thing more.
 #[test]
 fn ladder_of_a_step() {
-    let refused = |r: &Record, t| step(&mut r.clone(), t).refusal;
+    let rough = |r: &Record, t, strickler| rough_step(&mut r.clone(), t, strickler).refusal;
+    let refused = |r: &Record, t| rough(r, t, 9);
     let over = MOST_TOTAL + 1;
     let mut r = cell(5_000_000, 0, kind_of(3), 5_000_000, 1, over, 0);
     r.columns.base.clear();
@@ -66,6 +67,8 @@ fn ladder_of_a_step() {
         0
     );
     assert_eq!(refused(&r, 1_001), 10);
+    assert_eq!(refused(&r, 1_000), 17);
+    let refused = |r: &Record, t| rough(r, t, 10);
     assert_eq!(refused(&r, 1_000), 11);
     assert_eq!(refused(&r, 6), 12);
     r.columns.depth[0] = 0;

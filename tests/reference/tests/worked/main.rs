@@ -4,6 +4,7 @@
 mod cfl;
 mod draws;
 mod flux;
+mod friction;
 mod grounds;
 mod interface;
 mod outlets;
@@ -53,8 +54,13 @@ fn book(left: [u64; 4], right: [u64; 4]) -> Book {
     }
 }
 
-/// A step of t; the record keeps the book handed back.
+/// A step of t without friction; the record keeps the book handed back.
 fn step(r: &mut Record, t: u16) -> StepAnswer {
+    rough_step(r, t, 0)
+}
+
+/// A step of t over a bed of this coefficient; the record keeps the book handed back.
+fn rough_step(r: &mut Record, t: u16, strickler: u8) -> StepAnswer {
     let answer = reference::step(
         &mut r.columns,
         &mut r.outlets,
@@ -62,6 +68,7 @@ fn step(r: &mut Record, t: u16) -> StepAnswer {
         r.ends,
         r.book,
         t.into(),
+        strickler.into(),
     );
     r.book = answer.book;
     answer

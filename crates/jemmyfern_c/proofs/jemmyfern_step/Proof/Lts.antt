@@ -216,7 +216,8 @@ ps = List._∷_ (ShrSlice.pShrS (Signed.SInt Syntax.w64) 0 tt) (List._∷_ (MutS
       in-mem =
           Local.mem-whole 𝓤 H A W (Declared.row Ledger.the-type);
       of-mem = Local.whole-mem 𝓤 H A W (Declared.row Ledger.the-type);
-    }) (List._∷_ (Num.pNum Syntax.w64) List.[]))))))))))
+    }) (List._∷_ (Num.pNum Syntax.w64) (List._∷_ (Num.pNum Syntax.w64)
+    List.[])))))))))))
 
 abbrev pub r : Kinds.RK 7
 r = Value.rVal record {
@@ -370,7 +371,8 @@ ps·2 = List._∷_ (ShrSlice.pShrS (Signed.SInt Syntax.w64) 0 tt) (List._∷_ (M
       makes = Laws'7.makes Held.the-type Laws'4.the-plain 𝓤 H A;
       in-mem = Local.mem-whole 𝓤 H A W (Declared.row Held.the-type);
       of-mem = Local.whole-mem 𝓤 H A W (Declared.row Held.the-type);
-    }) (List._∷_ (Num.pNum Syntax.w64) List.[]))))))))
+    }) (List._∷_ (Num.pNum Syntax.w64) (List._∷_ (Num.pNum Syntax.w64)
+    List.[])))))))))
 
 abbrev pub r·2 : Kinds.RK 6
 r·2 = Value.rVal record {
@@ -469,73 +471,73 @@ hs = List._∷_ Syntax.valueLocal (List._∷_ Syntax.valueLocal (List._∷_ Synt
     (List._∷_ Syntax.valueLocal (List._∷_ Syntax.valueLocal (List._∷_ Syntax.valueLocal (List._∷_ Syntax.valueLocal (List._∷_ Syntax.valueLocal (List._∷_ Syntax.valueLocal (List._∷_ Syntax.valueLocal
     (List._∷_ Syntax.valueLocal (List._∷_ Syntax.valueLocal (List._∷_ Syntax.valueLocal (List._∷_ Syntax.valueLocal (List._∷_ Syntax.valueLocal (List._∷_ Syntax.valueLocal (List._∷_ Syntax.valueLocal
     (List._∷_ Syntax.valueLocal (List._∷_ Syntax.valueLocal (List._∷_ Syntax.valueLocal (List._∷_ Syntax.valueLocal (List._∷_ Syntax.valueLocal (List._∷_ Syntax.valueLocal (List._∷_ Syntax.valueLocal
-    (List._∷_ Syntax.valueLocal (List._∷_ Syntax.valueLocal (List._∷_ Syntax.valueLocal List.[]))))))))))))))))))))))))))))))
+    (List._∷_ Syntax.valueLocal (List._∷_ Syntax.valueLocal (List._∷_ Syntax.valueLocal (List._∷_ Syntax.valueLocal List.[])))))))))))))))))))))))))))))))
 
 abbrev b0 : Syntax.Body
-b0 = Syntax.assign (Syntax.place 16 List.[]) (Syntax.addrOf (Syntax.place 7 (List._∷_ (Syntax.field 0) (List._∷_ (Syntax.deref ElemTy) List.[]))))
+b0 = Syntax.assign (Syntax.place 17 List.[]) (Syntax.addrOf (Syntax.place 7 (List._∷_ (Syntax.field 0) (List._∷_ (Syntax.deref ElemTy) List.[]))))
 
 abbrev b1 : Syntax.Body
-b1 = Syntax.assign (Syntax.place 17 List.[]) (Syntax.aggregate (List._∷_ (Syntax.copy (Syntax.place 16 List.[])) (List._∷_ (Syntax.copy (Syntax.place 7 (List._∷_ (Syntax.field 1) List.[]))) List.[])))
+b1 = Syntax.assign (Syntax.place 18 List.[]) (Syntax.aggregate (List._∷_ (Syntax.copy (Syntax.place 17 List.[])) (List._∷_ (Syntax.copy (Syntax.place 7 (List._∷_ (Syntax.field 1) List.[]))) List.[])))
 
 abbrev b2 : Syntax.Body
-b2 = Syntax.call "outlet::load" (List._∷_ (Syntax.copy (Syntax.place 17 List.[])) List.[]) (Syntax.place 12 List.[])
+b2 = Syntax.call "outlet::load" (List._∷_ (Syntax.copy (Syntax.place 18 List.[])) List.[]) (Syntax.place 13 List.[])
 
 abbrev b3 : Syntax.Body
-b3 = Syntax.call "jemmyfern_c::answer::given_held" (List._∷_ (Syntax.copy (Syntax.place 9 List.[])) (List._∷_ (Syntax.copy (Syntax.place 10 List.[])) (List._∷_ (Syntax.copy (Syntax.place 12 List.[]))
-    List.[]))) (Syntax.place 13 List.[])
+b3 = Syntax.call "jemmyfern_c::answer::given_held" (List._∷_ (Syntax.copy (Syntax.place 9 List.[])) (List._∷_ (Syntax.copy (Syntax.place 10 List.[])) (List._∷_ (Syntax.copy (Syntax.place 13 List.[]))
+    List.[]))) (Syntax.place 14 List.[])
 
 abbrev b4 : Syntax.Body
-b4 = Syntax.assign (Syntax.place 18 List.[]) (Syntax.addrOf (Syntax.place 2 (List._∷_ (Syntax.field 0) (List._∷_ (Syntax.deref (Syntax.tyInt Syntax.w64)) List.[]))))
+b4 = Syntax.assign (Syntax.place 19 List.[]) (Syntax.addrOf (Syntax.place 2 (List._∷_ (Syntax.field 0) (List._∷_ (Syntax.deref (Syntax.tyInt Syntax.w64)) List.[]))))
 
 abbrev b5 : Syntax.Body
-b5 = Syntax.assign (Syntax.place 19 List.[]) (Syntax.aggregate (List._∷_ (Syntax.copy (Syntax.place 18 List.[])) (List._∷_ (Syntax.copy (Syntax.place 2 (List._∷_ (Syntax.field 1) List.[]))) List.[])))
+b5 = Syntax.assign (Syntax.place 20 List.[]) (Syntax.aggregate (List._∷_ (Syntax.copy (Syntax.place 19 List.[])) (List._∷_ (Syntax.copy (Syntax.place 2 (List._∷_ (Syntax.field 1) List.[]))) List.[])))
 
 abbrev b6 : Syntax.Body
-b6 = Syntax.assign (Syntax.place 20 List.[]) (Syntax.addrOf (Syntax.place 3 (List._∷_ (Syntax.field 0) (List._∷_ (Syntax.deref (Syntax.tyInt Syntax.w64)) List.[]))))
+b6 = Syntax.assign (Syntax.place 21 List.[]) (Syntax.addrOf (Syntax.place 3 (List._∷_ (Syntax.field 0) (List._∷_ (Syntax.deref (Syntax.tyInt Syntax.w64)) List.[]))))
 
 abbrev b7 : Syntax.Body
-b7 = Syntax.assign (Syntax.place 21 List.[]) (Syntax.aggregate (List._∷_ (Syntax.copy (Syntax.place 20 List.[])) (List._∷_ (Syntax.copy (Syntax.place 3 (List._∷_ (Syntax.field 1) List.[]))) List.[])))
+b7 = Syntax.assign (Syntax.place 22 List.[]) (Syntax.aggregate (List._∷_ (Syntax.copy (Syntax.place 21 List.[])) (List._∷_ (Syntax.copy (Syntax.place 3 (List._∷_ (Syntax.field 1) List.[]))) List.[])))
 
 abbrev b8 : Syntax.Body
-b8 = Syntax.assign (Syntax.place 22 List.[]) (Syntax.addrOf (Syntax.place 4 (List._∷_ (Syntax.field 0) (List._∷_ (Syntax.deref (Syntax.tyInt Syntax.w64)) List.[]))))
+b8 = Syntax.assign (Syntax.place 23 List.[]) (Syntax.addrOf (Syntax.place 4 (List._∷_ (Syntax.field 0) (List._∷_ (Syntax.deref (Syntax.tyInt Syntax.w64)) List.[]))))
 
 abbrev b9 : Syntax.Body
-b9 = Syntax.assign (Syntax.place 23 List.[]) (Syntax.aggregate (List._∷_ (Syntax.copy (Syntax.place 22 List.[])) (List._∷_ (Syntax.copy (Syntax.place 4 (List._∷_ (Syntax.field 1) List.[]))) List.[])))
+b9 = Syntax.assign (Syntax.place 24 List.[]) (Syntax.aggregate (List._∷_ (Syntax.copy (Syntax.place 23 List.[])) (List._∷_ (Syntax.copy (Syntax.place 4 (List._∷_ (Syntax.field 1) List.[]))) List.[])))
 
 abbrev b10 : Syntax.Body
-b10 = Syntax.assign (Syntax.place 24 List.[]) (Syntax.addrOf (Syntax.place 5 (List._∷_ (Syntax.field 0) (List._∷_ (Syntax.deref (Syntax.tyInt Syntax.w64)) List.[]))))
+b10 = Syntax.assign (Syntax.place 25 List.[]) (Syntax.addrOf (Syntax.place 5 (List._∷_ (Syntax.field 0) (List._∷_ (Syntax.deref (Syntax.tyInt Syntax.w64)) List.[]))))
 
 abbrev b11 : Syntax.Body
-b11 = Syntax.assign (Syntax.place 25 List.[]) (Syntax.aggregate (List._∷_ (Syntax.copy (Syntax.place 24 List.[])) (List._∷_ (Syntax.copy (Syntax.place 5 (List._∷_ (Syntax.field 1) List.[])))
+b11 = Syntax.assign (Syntax.place 26 List.[]) (Syntax.aggregate (List._∷_ (Syntax.copy (Syntax.place 25 List.[])) (List._∷_ (Syntax.copy (Syntax.place 5 (List._∷_ (Syntax.field 1) List.[])))
     List.[])))
 
 abbrev b12 : Syntax.Body
-b12 = Syntax.assign (Syntax.place 26 List.[]) (Syntax.addrOf (Syntax.place 6 (List._∷_ (Syntax.field 0) (List._∷_ (Syntax.deref (Syntax.tyInt Syntax.w64)) List.[]))))
+b12 = Syntax.assign (Syntax.place 27 List.[]) (Syntax.addrOf (Syntax.place 6 (List._∷_ (Syntax.field 0) (List._∷_ (Syntax.deref (Syntax.tyInt Syntax.w64)) List.[]))))
 
 abbrev b13 : Syntax.Body
-b13 = Syntax.assign (Syntax.place 27 List.[]) (Syntax.aggregate (List._∷_ (Syntax.copy (Syntax.place 26 List.[])) (List._∷_ (Syntax.copy (Syntax.place 6 (List._∷_ (Syntax.field 1) List.[])))
+b13 = Syntax.assign (Syntax.place 28 List.[]) (Syntax.aggregate (List._∷_ (Syntax.copy (Syntax.place 27 List.[])) (List._∷_ (Syntax.copy (Syntax.place 6 (List._∷_ (Syntax.field 1) List.[])))
     List.[])))
 
 abbrev b14 : Syntax.Body
-b14 = Syntax.call "stepping::step::step" (List._∷_ (Syntax.copy (Syntax.place 1 List.[])) (List._∷_ (Syntax.copy (Syntax.place 19 List.[])) (List._∷_ (Syntax.copy (Syntax.place 21 List.[])) (List._∷_
-    (Syntax.copy (Syntax.place 23 List.[])) (List._∷_ (Syntax.copy (Syntax.place 25 List.[])) (List._∷_ (Syntax.copy (Syntax.place 27 List.[])) (List._∷_ (Syntax.copy (Syntax.place 8 List.[]))
-    (List._∷_ (Syntax.copy (Syntax.place 13 List.[])) (List._∷_ (Syntax.copy (Syntax.place 11 List.[])) List.[]))))))))) (Syntax.place 14 List.[])
+b14 = Syntax.call "stepping::step::step" (List._∷_ (Syntax.copy (Syntax.place 1 List.[])) (List._∷_ (Syntax.copy (Syntax.place 20 List.[])) (List._∷_ (Syntax.copy (Syntax.place 22 List.[])) (List._∷_
+    (Syntax.copy (Syntax.place 24 List.[])) (List._∷_ (Syntax.copy (Syntax.place 26 List.[])) (List._∷_ (Syntax.copy (Syntax.place 28 List.[])) (List._∷_ (Syntax.copy (Syntax.place 8 List.[]))
+    (List._∷_ (Syntax.copy (Syntax.place 14 List.[])) (List._∷_ (Syntax.copy (Syntax.place 11 List.[])) (List._∷_ (Syntax.copy (Syntax.place 12 List.[])) List.[])))))))))) (Syntax.place 15 List.[])
 
 abbrev b15 : Syntax.Body
-b15 = Syntax.call "jemmyfern_c::answer::room_of" (List._∷_ (Syntax.copy (Syntax.place 14 (List._∷_ (Syntax.field 1) List.[]))) List.[]) (Syntax.place 15 List.[])
+b15 = Syntax.call "jemmyfern_c::answer::room_of" (List._∷_ (Syntax.copy (Syntax.place 15 (List._∷_ (Syntax.field 1) List.[]))) List.[]) (Syntax.place 16 List.[])
 
 abbrev b16 : Syntax.Body
-b16 = Syntax.assign (Syntax.place 29 List.[]) (Syntax.addrOf (Syntax.place 7 (List._∷_ (Syntax.field 0) (List._∷_ (Syntax.deref ElemTy) List.[]))))
+b16 = Syntax.assign (Syntax.place 30 List.[]) (Syntax.addrOf (Syntax.place 7 (List._∷_ (Syntax.field 0) (List._∷_ (Syntax.deref ElemTy) List.[]))))
 
 abbrev b17 : Syntax.Body
-b17 = Syntax.assign (Syntax.place 30 List.[]) (Syntax.aggregate (List._∷_ (Syntax.copy (Syntax.place 29 List.[])) (List._∷_ (Syntax.copy (Syntax.place 7 (List._∷_ (Syntax.field 1) List.[])))
+b17 = Syntax.assign (Syntax.place 31 List.[]) (Syntax.aggregate (List._∷_ (Syntax.copy (Syntax.place 30 List.[])) (List._∷_ (Syntax.copy (Syntax.place 7 (List._∷_ (Syntax.field 1) List.[])))
     List.[])))
 
 abbrev b18 : Syntax.Body
-b18 = Syntax.call "outlet::store" (List._∷_ (Syntax.copy (Syntax.place 30 List.[])) (List._∷_ (Syntax.copy (Syntax.place 15 List.[])) List.[])) (Syntax.place 28 List.[])
+b18 = Syntax.call "outlet::store" (List._∷_ (Syntax.copy (Syntax.place 31 List.[])) (List._∷_ (Syntax.copy (Syntax.place 16 List.[])) List.[])) (Syntax.place 29 List.[])
 
 abbrev b19 : Syntax.Body
-b19 = Syntax.call "jemmyfern_c::answer::step_answer" (List._∷_ (Syntax.copy (Syntax.place 14 List.[])) List.[]) (Syntax.place 0 List.[])
+b19 = Syntax.call "jemmyfern_c::answer::step_answer" (List._∷_ (Syntax.copy (Syntax.place 15 List.[])) List.[]) (Syntax.place 0 List.[])
 
 abbrev b20 : Syntax.Body
 b20 = Syntax.return
@@ -617,46 +619,42 @@ t0 = List._∷_ (0, Rows'.any-gone ty2) (List._∷_ (1, Rows'.sslice (Signed.SIn
       9,
       Rows'.whole (Declared.row
           Boundaries.the-type),
-    ) (List._∷_ (10, Rows'.whole (Declared.row Ledger.the-type)) (List._∷_ (11, Rows'.sc-here (Row.sInt Syntax.w64)) (List._∷_ (12, Rows'.any-gone ty4) (List._∷_ (
-      13,
-      Rows'.any-gone ty1,
-    ) (List._∷_ (14, Rows'.any-gone ty0) (List._∷_ (15, Rows'.any-gone ty6) List.[])))))))))))))))
+    ) (List._∷_ (10, Rows'.whole (Declared.row Ledger.the-type)) (List._∷_ (11, Rows'.sc-here (Row.sInt Syntax.w64)) (List._∷_ (12, Rows'.sc-here (Row.sInt Syntax.w64)) (List._∷_
+    (13, Rows'.any-gone ty4) (List._∷_ (14, Rows'.any-gone ty1) (List._∷_ (15, Rows'.any-gone ty0) List.[])))))))))))))))
 
 abbrev pub t1 : List.List Row.Entry
-t1 = List._∷_ (16, Rows'.any-gone (Syntax.tyRef Syntax.erased Syntax.imm ElemName)) (List._∷_ (17, Rows'.any-gone ty9) (List._∷_ (18, Rows'.any-gone ty16) (List._∷_ (19, Rows'.any-gone ty7) (List._∷_
-    (20, Rows'.any-gone ty16) (List._∷_ (21, Rows'.any-gone ty7) (List._∷_ (22, Rows'.any-gone ty16) (List._∷_ (23, Rows'.any-gone ty7) (List._∷_ (24, Rows'.any-gone ty16) (List._∷_ (
+t1 = List._∷_ (16, Rows'.any-gone ty6) (List._∷_ (17, Rows'.any-gone (Syntax.tyRef Syntax.erased Syntax.imm ElemName)) (List._∷_ (18, Rows'.any-gone ty9) (List._∷_ (19, Rows'.any-gone ty16) (List._∷_
+    (20, Rows'.any-gone ty7) (List._∷_ (21, Rows'.any-gone ty16) (List._∷_ (22, Rows'.any-gone ty7) (List._∷_ (23, Rows'.any-gone ty16) (List._∷_ (24, Rows'.any-gone ty7) (List._∷_ (
       25,
-      Rows'.any-gone ty7,
-    ) (List._∷_ (26, Rows'.any-gone ty16) (List._∷_ (27, Rows'.any-gone ty7) (List._∷_ (28, Rows'.any-gone Syntax.tyUnit) (List._∷_ (
-      29,
-      Rows'.any-gone (Syntax.tyRef Syntax.erased
-          Syntax.mut ElemName),
-    ) (List._∷_ (30, Rows'.any-gone ty8) List.[]))))))))))))))
+      Rows'.any-gone ty16,
+    ) (List._∷_ (26, Rows'.any-gone ty7) (List._∷_ (27, Rows'.any-gone ty16) (List._∷_ (28, Rows'.any-gone ty7) (List._∷_ (29, Rows'.any-gone Syntax.tyUnit) (List._∷_ (
+      30,
+      Rows'.any-gone (Syntax.tyRef Syntax.erased Syntax.mut ElemName),
+    ) (List._∷_ (31, Rows'.any-gone ty8) List.[])))))))))))))))
 
 abbrev pub t2 : List.List Row.Entry
-t2 = Row.setRow 11 (11, Rows'.any-gone (Syntax.tyInt Syntax.w64)) (Row.setRow 10 (10, Rows'.any-gone ty3) (Row.setRow 9 (9, Rows'.any-gone ty5) (Row.setRow 8 (
-  8,
-  Rows'.any-gone (Syntax.tyInt
-      Syntax.w64),
-) (Row.setRow 0 (0, Rows'.whole (Declared.row Stepped.the-type)) t0))))
+t2 = Row.setRow 12 (12, Rows'.any-gone (Syntax.tyInt Syntax.w64)) (Row.setRow 11 (11, Rows'.any-gone (Syntax.tyInt Syntax.w64)) (Row.setRow 10 (10, Rows'.any-gone ty3) (Row.setRow 9 (
+  9,
+  Rows'.any-gone ty5,
+) (Row.setRow 8 (8, Rows'.any-gone (Syntax.tyInt Syntax.w64)) (Row.setRow 0 (0, Rows'.whole (Declared.row Stepped.the-type)) t0)))))
 
 abbrev pub t3 : List.List Row.Entry
 t3 = Row.setRow 7 (7, Reshare.mslice-owedS Elem ty17 6 7 Row.off) t0
 
 abbrev pub t4 : List.List Row.Entry
-t4 = Row.setRow 0 (16, Relend.ssptr Elem (Syntax.tyRef Syntax.erased Syntax.imm ElemName) 7) t1
+t4 = Row.setRow 1 (17, Relend.ssptr Elem (Syntax.tyRef Syntax.erased Syntax.imm ElemName) 7) t1
 
 abbrev pub t5 : List.List Row.Entry
-t5 = Row.setRow 1 (17, Rows'.sslice Elem (Syntax.tyRef Syntax.erased Syntax.imm ElemName) 7) t1
+t5 = Row.setRow 2 (18, Rows'.sslice Elem (Syntax.tyRef Syntax.erased Syntax.imm ElemName) 7) t1
 
 abbrev pub t6 : List.List Row.Entry
-t6 = Row.setRow 12 (12, Rows'.whole (Declared.row Outlets.the-type)) t3
+t6 = Row.setRow 13 (13, Rows'.whole (Declared.row Outlets.the-type)) t3
 
 abbrev pub t7 : List.List Row.Entry
-t7 = Row.setRow 12 (12, Rows'.whole (Declared.row Outlets.the-type)) t0
+t7 = Row.setRow 13 (13, Rows'.whole (Declared.row Outlets.the-type)) t0
 
 abbrev pub t8 : List.List Row.Entry
-t8 = Row.setRow 13 (13, Rows'.whole (Declared.row Held.the-type)) t7
+t8 = Row.setRow 14 (14, Rows'.whole (Declared.row Held.the-type)) t7
 
 abbrev pub t9 : List.List Row.Entry
 t9 = Row.setRow 9 (9, Rows'.any-gone ty5) t8
@@ -665,122 +663,125 @@ abbrev pub t10 : List.List Row.Entry
 t10 = Row.setRow 10 (10, Rows'.any-gone ty3) t9
 
 abbrev pub t11 : List.List Row.Entry
-t11 = Row.setRow 12 (12, Rows'.any-gone ty4) t10
+t11 = Row.setRow 13 (13, Rows'.any-gone ty4) t10
 
 abbrev pub t12 : List.List Row.Entry
 t12 = Row.setRow 2 (2, Relend.mslice-owed (Referent.rtF (Referent.fInt Syntax.w64)) ty14 1 8 Row.off) t11
 
 abbrev pub t13 : List.List Row.Entry
-t13 = Row.setRow 2 (18, Relend.msptr (Referent.rtF (Referent.fInt Syntax.w64)) ty16 8) t1
+t13 = Row.setRow 3 (19, Relend.msptr (Referent.rtF (Referent.fInt Syntax.w64)) ty16 8) t1
 
 abbrev pub t14 : List.List Row.Entry
-t14 = Row.setRow 3 (19, Mut.mslice (Referent.rtF (Referent.fInt Syntax.w64)) ty16 8) t1
+t14 = Row.setRow 4 (20, Mut.mslice (Referent.rtF (Referent.fInt Syntax.w64)) ty16 8) t1
 
 abbrev pub t15 : List.List Row.Entry
 t15 = Row.setRow 3 (3, Relend.mslice-owed (Signed.SInt Syntax.w64) ty13 2 9 Row.off) t12
 
 abbrev pub t16 : List.List Row.Entry
-t16 = Row.setRow 4 (20, Relend.msptr (Signed.SInt Syntax.w64) ty16 9) t14
+t16 = Row.setRow 5 (21, Relend.msptr (Signed.SInt Syntax.w64) ty16 9) t14
 
 abbrev pub t17 : List.List Row.Entry
-t17 = Row.setRow 5 (21, Mut.mslice (Signed.SInt Syntax.w64) ty16 9) t14
+t17 = Row.setRow 6 (22, Mut.mslice (Signed.SInt Syntax.w64) ty16 9) t14
 
 abbrev pub t18 : List.List Row.Entry
 t18 = Row.setRow 4 (4, Relend.mslice-owed (Referent.rtF (Referent.fInt Syntax.w64)) ty12 3 10 Row.off) t15
 
 abbrev pub t19 : List.List Row.Entry
-t19 = Row.setRow 6 (22, Relend.msptr (Referent.rtF (Referent.fInt Syntax.w64)) ty16 10) t17
+t19 = Row.setRow 7 (23, Relend.msptr (Referent.rtF (Referent.fInt Syntax.w64)) ty16 10) t17
 
 abbrev pub t20 : List.List Row.Entry
-t20 = Row.setRow 7 (23, Mut.mslice (Referent.rtF (Referent.fInt Syntax.w64)) ty16 10) t17
+t20 = Row.setRow 8 (24, Mut.mslice (Referent.rtF (Referent.fInt Syntax.w64)) ty16 10) t17
 
 abbrev pub t21 : List.List Row.Entry
 t21 = Row.setRow 5 (5, Relend.mslice-owed (Referent.rtF (Referent.fInt Syntax.w64)) ty11 4 11 Row.off) t18
 
 abbrev pub t22 : List.List Row.Entry
-t22 = Row.setRow 8 (24, Relend.msptr (Referent.rtF (Referent.fInt Syntax.w64)) ty16 11) t20
+t22 = Row.setRow 9 (25, Relend.msptr (Referent.rtF (Referent.fInt Syntax.w64)) ty16 11) t20
 
 abbrev pub t23 : List.List Row.Entry
-t23 = Row.setRow 9 (25, Mut.mslice (Referent.rtF (Referent.fInt Syntax.w64)) ty16 11) t20
+t23 = Row.setRow 10 (26, Mut.mslice (Referent.rtF (Referent.fInt Syntax.w64)) ty16 11) t20
 
 abbrev pub t24 : List.List Row.Entry
 t24 = Row.setRow 6 (6, Relend.mslice-owed (Signed.SInt Syntax.w64) ty10 5 12 Row.off) t21
 
 abbrev pub t25 : List.List Row.Entry
-t25 = Row.setRow 10 (26, Relend.msptr (Signed.SInt Syntax.w64) ty16 12) t23
+t25 = Row.setRow 11 (27, Relend.msptr (Signed.SInt Syntax.w64) ty16 12) t23
 
 abbrev pub t26 : List.List Row.Entry
-t26 = Row.setRow 11 (27, Mut.mslice (Signed.SInt Syntax.w64) ty16 12) t23
+t26 = Row.setRow 12 (28, Mut.mslice (Signed.SInt Syntax.w64) ty16 12) t23
 
 abbrev pub t27 : List.List Row.Entry
-t27 = Row.setRow 14 (14, Rows'.whole (Declared.row StepAnswer.the-type)) t24
+t27 = Row.setRow 15 (15, Rows'.whole (Declared.row StepAnswer.the-type)) t24
 
 abbrev pub t28 : List.List Row.Entry
-t28 = Row.setRow 11 (27, Mut.msleft (Signed.SInt Syntax.w64) ty16) (Row.setRow 9 (25, Mut.msleft (Referent.rtF (Referent.fInt Syntax.w64)) ty16) (Row.setRow 7 (
-  23,
+t28 = Row.setRow 12 (28, Mut.msleft (Signed.SInt Syntax.w64) ty16) (Row.setRow 10 (26, Mut.msleft (Referent.rtF (Referent.fInt Syntax.w64)) ty16) (Row.setRow 8 (
+  24,
   Mut.msleft (Referent.rtF
       (Referent.fInt Syntax.w64)) ty16,
-) (Row.setRow 5 (21, Mut.msleft (Signed.SInt Syntax.w64) ty16) (Row.setRow 3 (19, Mut.msleft (Referent.rtF (Referent.fInt Syntax.w64)) ty16) t1))))
+) (Row.setRow 6 (22, Mut.msleft (Signed.SInt Syntax.w64) ty16) (Row.setRow 4 (20, Mut.msleft (Referent.rtF (Referent.fInt Syntax.w64)) ty16) t1))))
 
 abbrev pub t29 : List.List Row.Entry
-t29 = Row.setRow 13 (13, Rows'.any-gone ty1) t27
+t29 = Row.setRow 14 (14, Rows'.any-gone ty1) t27
 
 abbrev pub t30 : List.List Row.Entry
 t30 = Row.setRow 2 (2, Mut.mslice (Referent.rtF (Referent.fInt Syntax.w64)) ty14 1) t29
 
 abbrev pub t31 : List.List Row.Entry
-t31 = Row.setRow 3 (19, Rows'.any-gone ty7) t28
+t31 = Row.setRow 4 (20, Rows'.any-gone ty7) t28
 
 abbrev pub t32 : List.List Row.Entry
 t32 = Row.setRow 3 (3, Mut.mslice (Signed.SInt Syntax.w64) ty13 2) t30
 
 abbrev pub t33 : List.List Row.Entry
-t33 = Row.setRow 5 (21, Rows'.any-gone ty7) t31
+t33 = Row.setRow 6 (22, Rows'.any-gone ty7) t31
 
 abbrev pub t34 : List.List Row.Entry
 t34 = Row.setRow 4 (4, Mut.mslice (Referent.rtF (Referent.fInt Syntax.w64)) ty12 3) t32
 
 abbrev pub t35 : List.List Row.Entry
-t35 = Row.setRow 7 (23, Rows'.any-gone ty7) t33
+t35 = Row.setRow 8 (24, Rows'.any-gone ty7) t33
 
 abbrev pub t36 : List.List Row.Entry
 t36 = Row.setRow 5 (5, Mut.mslice (Referent.rtF (Referent.fInt Syntax.w64)) ty11 4) t34
 
 abbrev pub t37 : List.List Row.Entry
-t37 = Row.setRow 11 (27, Mut.msleft (Signed.SInt Syntax.w64) ty16) t1
+t37 = Row.setRow 12 (28, Mut.msleft (Signed.SInt Syntax.w64) ty16) t1
 
 abbrev pub t38 : List.List Row.Entry
 t38 = Row.setRow 6 (6, Mut.mslice (Signed.SInt Syntax.w64) ty10 5) t36
 
 abbrev pub t39 : List.List Row.Entry
-t39 = Row.setRow 15 (15, Rows.arrF (Declared.row Outlet.the-type) 32 0) t38
+t39 = Row.setRow 0 (16, Rows.arrF (Declared.row Outlet.the-type) 32 0) t1
 
 abbrev pub t40 : List.List Row.Entry
-t40 = Row.setRow 7 (7, Relend.mslice-owed Elem ty17 6 13 Row.off) t39
+t40 = Row.setRow 7 (7, Relend.mslice-owed Elem ty17 6 13 Row.off) t38
 
 abbrev pub t41 : List.List Row.Entry
-t41 = Row.setRow 13 (29, Relend.msptr Elem (Syntax.tyRef Syntax.erased Syntax.mut ElemName) 13) t1
+t41 = Row.setRow 14 (30, Relend.msptr Elem (Syntax.tyRef Syntax.erased Syntax.mut ElemName) 13) t39
 
 abbrev pub t42 : List.List Row.Entry
-t42 = Row.setRow 14 (30, Mut.mslice Elem (Syntax.tyRef Syntax.erased Syntax.mut ElemName) 13) t1
+t42 = Row.setRow 15 (31, Mut.mslice Elem (Syntax.tyRef Syntax.erased Syntax.mut ElemName) 13) t39
 
 abbrev pub t43 : List.List Row.Entry
-t43 = Row.setRow 14 (30, Mut.msleft Elem (Syntax.tyRef Syntax.erased Syntax.mut ElemName)) (Row.setRow 12 (28, Rows'.sc-here Row.sUnit) t1)
+t43 = Row.setRow 15 (31, Mut.msleft Elem (Syntax.tyRef Syntax.erased Syntax.mut ElemName)) (Row.setRow 13 (29, Rows'.sc-here Row.sUnit) t39)
 
 abbrev pub t44 : List.List Row.Entry
-t44 = Row.setRow 7 (7, Relend.mslice-owed Elem ty17 6 13 Row.off) t38
+t44 = Row.setRow 0 (16, Rows'.any-gone ty6) t43
 
 abbrev pub t45 : List.List Row.Entry
-t45 = Row.setRow 14 (30, Mut.msleft Elem (Syntax.tyRef Syntax.erased Syntax.mut ElemName)) t1
+t45 = Row.setRow 15 (31, Mut.msleft Elem (Syntax.tyRef Syntax.erased Syntax.mut ElemName)) t1
 
 abbrev pub t46 : List.List Row.Entry
 t46 = Row.setRow 0 (0, Rows'.whole (Declared.row Stepped.the-type)) t38
 
 abbrev pub t47 : List.List Row.Entry
-t47 = Row.setRow 14 (14, Rows'.any-gone ty0) t46
+t47 = Row.setRow 15 (15, Rows'.any-gone ty0) t46
 
 abbrev pub t48 : List.List Row.Entry
-t48 = Row.setRow 11 (11, Rows'.sc-here (Row.sInt Syntax.w64)) t2
+t48 = Row.setRow 8 (8, Rows'.any-gone (Syntax.tyInt Syntax.w64)) t47
+
+abbrev pub t49 : List.List Row.Entry
+t49 = Row.setRow 12 (12, Rows'.sc-here (Row.sInt Syntax.w64)) t2
 
 abbrev pub T0 : Row.Cx
 T0 = record { locals = List._++_ t0 t1; slots = List.[] }
@@ -885,7 +886,7 @@ abbrev pub T50 : Row.Cx
 T50 = record { locals = List._++_ t38 t1; slots = List.[] }
 
 abbrev pub T52 : Row.Cx
-T52 = record { locals = List._++_ t39 t1; slots = List.[] }
+T52 = record { locals = List._++_ t38 t39; slots = List.[] }
 
 abbrev pub T54 : Row.Cx
 T54 = record { locals = List._++_ t40 t41; slots = List.[] }
@@ -897,10 +898,10 @@ abbrev pub T56 : Row.Cx
 T56 = record { locals = List._++_ t40 t43; slots = List.[] }
 
 abbrev pub T57 : Row.Cx
-T57 = record { locals = List._++_ t44 t43; slots = List.[] }
+T57 = record { locals = List._++_ t40 t44; slots = List.[] }
 
 abbrev pub T58 : Row.Cx
-T58 = record { locals = List._++_ t44 t45; slots = List.[] }
+T58 = record { locals = List._++_ t40 t45; slots = List.[] }
 
 abbrev pub T60 : Row.Cx
 T60 = record { locals = List._++_ t38 t1; slots = List.[] }
@@ -915,7 +916,10 @@ abbrev pub T64 : Row.Cx
 T64 = record { locals = List._++_ t48 t1; slots = List.[] }
 
 abbrev pub T65 : Row.Cx
-T65 = record { locals = List._++_ t2 t1; slots = List.[] }
+T65 = record { locals = List._++_ t49 t1; slots = List.[] }
+
+abbrev pub T66 : Row.Cx
+T66 = record { locals = List._++_ t2 t1; slots = List.[] }
 
 abbrev pub O0 : Typed.Outs
 O0 = record { next = Option.none; exits = List.[]; returns = Option.some T1 }
@@ -931,17 +935,17 @@ module _ (claims· : Claims) where
   s2 = Know.k-sl-known (Referent.fInt Syntax.w64) T3 5 4 ty11 Row.off 0 λ x. x
 
   abbrev s4 : Typed.Gives T4 T6
-  s4 = Reshare.k-sl-reshare Elem T4 7 16 6 7 ty17 (Syntax.tyRef Syntax.erased Syntax.imm ElemName) Row.off λ x. x
+  s4 = Reshare.k-sl-reshare Elem T4 7 17 6 7 ty17 (Syntax.tyRef Syntax.erased Syntax.imm ElemName) Row.off λ x. x
 
   abbrev s5 : Typed.Asks T6 T7
-  s5 = Relend.k-sl-aggregate Elem (Relend.asShr Elem) T6 16 17 7 (Syntax.tyRef Syntax.erased Syntax.imm ElemName) (Syntax.tyRef Syntax.erased Syntax.imm ElemName) (λ x. x) (Scalar.oFld 7 (List._∷_
+  s5 = Relend.k-sl-aggregate Elem (Relend.asShr Elem) T6 17 18 7 (Syntax.tyRef Syntax.erased Syntax.imm ElemName) (Syntax.tyRef Syntax.erased Syntax.imm ElemName) (λ x. x) (Scalar.oFld 7 (List._∷_
       (Syntax.field 1) List.[]) (Syntax.tyInt Syntax.w64) 8 λ v. Shared.lenV (v .0))
 
   abbrev s6 : Typed.Both T7 T8
-  s6 = Call.callB ps·0 r·0 (claims· .0) (claims· .1) T7 (record { pos = 17; ty = Syntax.tyRef Syntax.erased Syntax.imm ElemName; ref = λ x. x }, tt) 12 (List._∷_ 7 List.[]) ty4
+  s6 = Call.callB ps·0 r·0 (claims· .0) (claims· .1) T7 (record { pos = 18; ty = Syntax.tyRef Syntax.erased Syntax.imm ElemName; ref = λ x. x }, tt) 13 (List._∷_ 7 List.[]) ty4
 
   abbrev s7 : Typed.Mo T8 → Typed.Mo T9
-  s7 = Scalar.n-room T8 17 ty9
+  s7 = Scalar.n-room T8 18 ty9
 
   abbrev s9 : Typed.Mo T9 → Typed.Mo T11
   s9 = Reshare.n-back-sl-shr Elem T9 7 6 7 ty17 Row.off λ x. x
@@ -953,7 +957,7 @@ module _ (claims· : Claims) where
       record { pos = 10; st = List.[]; d = 0; at = λ x. x },
       (
         record {
-          pos = 12;
+          pos = 13;
           st =
               List.[];
           d = 0;
@@ -962,7 +966,7 @@ module _ (claims· : Claims) where
         tt,
       ),
     ),
-  ) 13 List.[] ty1
+  ) 14 List.[] ty1
 
   abbrev s12 : Typed.Mo T13 → Typed.Mo T14
   s12 = Scalar.n-room T13 9 ty5
@@ -971,41 +975,41 @@ module _ (claims· : Claims) where
   s13 = Scalar.n-room T14 10 ty3
 
   abbrev s14 : Typed.Mo T15 → Typed.Mo T16
-  s14 = Scalar.n-room T15 12 ty4
+  s14 = Scalar.n-room T15 13 ty4
 
   abbrev s16 : Typed.Gives T16 T18
-  s16 = Relend.k-sl-relend (Referent.rtF (Referent.fInt Syntax.w64)) T16 2 18 1 8 ty14 ty16 Row.off λ x. x
+  s16 = Relend.k-sl-relend (Referent.rtF (Referent.fInt Syntax.w64)) T16 2 19 1 8 ty14 ty16 Row.off λ x. x
 
   abbrev s17 : Typed.Asks T18 T19
-  s17 = Relend.k-sl-aggregate (Referent.rtF (Referent.fInt Syntax.w64)) (Relend.asMut (Referent.rtF (Referent.fInt Syntax.w64))) T18 18 19 8 ty16 ty16 (λ x. x) (Scalar.oFld 2 (List._∷_ (Syntax.field
+  s17 = Relend.k-sl-aggregate (Referent.rtF (Referent.fInt Syntax.w64)) (Relend.asMut (Referent.rtF (Referent.fInt Syntax.w64))) T18 19 20 8 ty16 ty16 (λ x. x) (Scalar.oFld 2 (List._∷_ (Syntax.field
       1) List.[]) (Syntax.tyInt Syntax.w64) 8 λ v. Shared.lenV (v .0))
 
   abbrev s19 : Typed.Gives T19 T21
-  s19 = Relend.k-sl-relend (Signed.SInt Syntax.w64) T19 3 20 2 9 ty13 ty16 Row.off λ x. x
+  s19 = Relend.k-sl-relend (Signed.SInt Syntax.w64) T19 3 21 2 9 ty13 ty16 Row.off λ x. x
 
   abbrev s20 : Typed.Asks T21 T22
-  s20 = Relend.k-sl-aggregate (Signed.SInt Syntax.w64) (Relend.asMut (Signed.SInt Syntax.w64)) T21 20 21 9 ty16 ty16 (λ x. x) (Scalar.oFld 3 (List._∷_ (Syntax.field 1) List.[]) (Syntax.tyInt
+  s20 = Relend.k-sl-aggregate (Signed.SInt Syntax.w64) (Relend.asMut (Signed.SInt Syntax.w64)) T21 21 22 9 ty16 ty16 (λ x. x) (Scalar.oFld 3 (List._∷_ (Syntax.field 1) List.[]) (Syntax.tyInt
       Syntax.w64) 8 λ v. Shared.lenV (v .0))
 
   abbrev s22 : Typed.Gives T22 T24
-  s22 = Relend.k-sl-relend (Referent.rtF (Referent.fInt Syntax.w64)) T22 4 22 3 10 ty12 ty16 Row.off λ x. x
+  s22 = Relend.k-sl-relend (Referent.rtF (Referent.fInt Syntax.w64)) T22 4 23 3 10 ty12 ty16 Row.off λ x. x
 
   abbrev s23 : Typed.Asks T24 T25
-  s23 = Relend.k-sl-aggregate (Referent.rtF (Referent.fInt Syntax.w64)) (Relend.asMut (Referent.rtF (Referent.fInt Syntax.w64))) T24 22 23 10 ty16 ty16 (λ x. x) (Scalar.oFld 4 (List._∷_ (Syntax.field
+  s23 = Relend.k-sl-aggregate (Referent.rtF (Referent.fInt Syntax.w64)) (Relend.asMut (Referent.rtF (Referent.fInt Syntax.w64))) T24 23 24 10 ty16 ty16 (λ x. x) (Scalar.oFld 4 (List._∷_ (Syntax.field
       1) List.[]) (Syntax.tyInt Syntax.w64) 8 λ v. Shared.lenV (v .0))
 
   abbrev s25 : Typed.Gives T25 T27
-  s25 = Relend.k-sl-relend (Referent.rtF (Referent.fInt Syntax.w64)) T25 5 24 4 11 ty11 ty16 Row.off λ x. x
+  s25 = Relend.k-sl-relend (Referent.rtF (Referent.fInt Syntax.w64)) T25 5 25 4 11 ty11 ty16 Row.off λ x. x
 
   abbrev s26 : Typed.Asks T27 T28
-  s26 = Relend.k-sl-aggregate (Referent.rtF (Referent.fInt Syntax.w64)) (Relend.asMut (Referent.rtF (Referent.fInt Syntax.w64))) T27 24 25 11 ty16 ty16 (λ x. x) (Scalar.oFld 5 (List._∷_ (Syntax.field
+  s26 = Relend.k-sl-aggregate (Referent.rtF (Referent.fInt Syntax.w64)) (Relend.asMut (Referent.rtF (Referent.fInt Syntax.w64))) T27 25 26 11 ty16 ty16 (λ x. x) (Scalar.oFld 5 (List._∷_ (Syntax.field
       1) List.[]) (Syntax.tyInt Syntax.w64) 8 λ v. Shared.lenV (v .0))
 
   abbrev s28 : Typed.Gives T28 T30
-  s28 = Relend.k-sl-relend (Signed.SInt Syntax.w64) T28 6 26 5 12 ty10 ty16 Row.off λ x. x
+  s28 = Relend.k-sl-relend (Signed.SInt Syntax.w64) T28 6 27 5 12 ty10 ty16 Row.off λ x. x
 
   abbrev s29 : Typed.Asks T30 T31
-  s29 = Relend.k-sl-aggregate (Signed.SInt Syntax.w64) (Relend.asMut (Signed.SInt Syntax.w64)) T30 26 27 12 ty16 ty16 (λ x. x) (Scalar.oFld 6 (List._∷_ (Syntax.field 1) List.[]) (Syntax.tyInt
+  s29 = Relend.k-sl-aggregate (Signed.SInt Syntax.w64) (Relend.asMut (Signed.SInt Syntax.w64)) T30 27 28 12 ty16 ty16 (λ x. x) (Scalar.oFld 6 (List._∷_ (Syntax.field 1) List.[]) (Syntax.tyInt
       Syntax.w64) 8 λ v. Shared.lenV (v .0))
 
   abbrev s30 : Typed.Both T31 T32
@@ -1013,35 +1017,35 @@ module _ (claims· : Claims) where
     record { pos = 1; ty = Syntax.tyRef (Syntax.named 0) Syntax.imm (Syntax.tyInt Syntax.w64); ref = λ x. x },
     (
       record {
-        pos = 19;
+        pos = 20;
         ty =
             Syntax.tyRef Syntax.erased Syntax.mut (Syntax.tyInt Syntax.w64);
         ref = λ x. x;
       },
       (
-        record { pos = 21; ty = Syntax.tyRef Syntax.erased Syntax.mut (Syntax.tyInt Syntax.w64); ref = λ x. x },
+        record { pos = 22; ty = Syntax.tyRef Syntax.erased Syntax.mut (Syntax.tyInt Syntax.w64); ref = λ x. x },
         (
-          record { pos = 23; ty = Syntax.tyRef Syntax.erased Syntax.mut (Syntax.tyInt Syntax.w64); ref = λ x. x },
+          record { pos = 24; ty = Syntax.tyRef Syntax.erased Syntax.mut (Syntax.tyInt Syntax.w64); ref = λ x. x },
           (
             record {
-              pos = 25;
+              pos = 26;
               ty = Syntax.tyRef Syntax.erased Syntax.mut (Syntax.tyInt
                   Syntax.w64);
               ref = λ x. x;
             },
             (
-              record { pos = 27; ty = Syntax.tyRef Syntax.erased Syntax.mut (Syntax.tyInt Syntax.w64); ref = λ x. x },
+              record { pos = 28; ty = Syntax.tyRef Syntax.erased Syntax.mut (Syntax.tyInt Syntax.w64); ref = λ x. x },
               (
                 Num.vAt 8 λ x. x,
                 (
                   record {
-                    pos = 13;
+                    pos = 14;
                     st = List.[];
                     d =
                         0;
                     at = λ x. x;
                   },
-                  (Num.vAt 11 λ x. x, tt),
+                  (Num.vAt 11 λ x. x, (Num.vAt 12 λ x. x, tt)),
                 ),
               ),
             ),
@@ -1049,51 +1053,51 @@ module _ (claims· : Claims) where
         ),
       ),
     ),
-  ) 14 (List._∷_ 0 (List._∷_ 8 (List._∷_ 9 (List._∷_ 10 (List._∷_ 11 (List._∷_ 12 List.[])))))) ty0
+  ) 15 (List._∷_ 0 (List._∷_ 8 (List._∷_ 9 (List._∷_ 10 (List._∷_ 11 (List._∷_ 12 List.[])))))) ty0
 
   abbrev s31 : Typed.Mo T32 → Typed.Mo T33
-  s31 = Scalar.n-room T32 13 ty1
+  s31 = Scalar.n-room T32 14 ty1
 
   abbrev s33 : Typed.Both T33 T35
-  s33 = Relend.k-back-sl (Referent.rtF (Referent.fInt Syntax.w64)) T33 19 2 1 8 ty14 ty16 Row.off (λ x. x) λ x. x
+  s33 = Relend.k-back-sl (Referent.rtF (Referent.fInt Syntax.w64)) T33 20 2 1 8 ty14 ty16 Row.off (λ x. x) λ x. x
 
   abbrev s34 : Typed.Gives T35 T36
   s34 = Know.k-sl-known (Referent.fInt Syntax.w64) T35 2 1 ty14 Row.off 0 λ x. x
 
   abbrev s37 : Typed.Both T36 T39
-  s37 = Relend.k-back-sl (Signed.SInt Syntax.w64) T36 21 3 2 9 ty13 ty16 Row.off (λ x. x) λ x. x
+  s37 = Relend.k-back-sl (Signed.SInt Syntax.w64) T36 22 3 2 9 ty13 ty16 Row.off (λ x. x) λ x. x
 
   abbrev s40 : Typed.Both T39 T42
-  s40 = Relend.k-back-sl (Referent.rtF (Referent.fInt Syntax.w64)) T39 23 4 3 10 ty12 ty16 Row.off (λ x. x) λ x. x
+  s40 = Relend.k-back-sl (Referent.rtF (Referent.fInt Syntax.w64)) T39 24 4 3 10 ty12 ty16 Row.off (λ x. x) λ x. x
 
   abbrev s41 : Typed.Gives T42 T43
   s41 = Know.k-sl-known (Referent.fInt Syntax.w64) T42 4 3 ty12 Row.off 0 λ x. x
 
   abbrev s44 : Typed.Both T43 T46
-  s44 = Relend.k-back-sl (Referent.rtF (Referent.fInt Syntax.w64)) T43 25 5 4 11 ty11 ty16 Row.off (λ x. x) λ x. x
+  s44 = Relend.k-back-sl (Referent.rtF (Referent.fInt Syntax.w64)) T43 26 5 4 11 ty11 ty16 Row.off (λ x. x) λ x. x
 
   abbrev s45 : Typed.Gives T46 T47
   s45 = Know.k-sl-known (Referent.fInt Syntax.w64) T46 5 4 ty11 Row.off 0 λ x. x
 
   abbrev s48 : Typed.Both T47 T50
-  s48 = Relend.k-back-sl (Signed.SInt Syntax.w64) T47 27 6 5 12 ty10 ty16 Row.off (λ x. x) λ x. x
+  s48 = Relend.k-back-sl (Signed.SInt Syntax.w64) T47 28 6 5 12 ty10 ty16 Row.off (λ x. x) λ x. x
 
   abbrev s50 : Typed.Both T50 T52
-  s50 = Call.callB ps·3 r·3 (claims· .6) (claims· .7) T50 (record { pos = 14; st = List._∷_ (Syntax.field 1) List.[]; d = 8; at = λ x. StepAnswer.struct .as-values x .1 .0 }, tt) 15 List.[] ty6
+  s50 = Call.callB ps·3 r·3 (claims· .6) (claims· .7) T50 (record { pos = 15; st = List._∷_ (Syntax.field 1) List.[]; d = 8; at = λ x. StepAnswer.struct .as-values x .1 .0 }, tt) 16 List.[] ty6
 
   abbrev s52 : Typed.Gives T52 T54
-  s52 = Relend.k-sl-relend Elem T52 7 29 6 13 ty17 (Syntax.tyRef Syntax.erased Syntax.mut ElemName) Row.off λ x. x
+  s52 = Relend.k-sl-relend Elem T52 7 30 6 13 ty17 (Syntax.tyRef Syntax.erased Syntax.mut ElemName) Row.off λ x. x
 
   abbrev s53 : Typed.Asks T54 T55
-  s53 = Relend.k-sl-aggregate Elem (Relend.asMut Elem) T54 29 30 13 (Syntax.tyRef Syntax.erased Syntax.mut ElemName) (Syntax.tyRef Syntax.erased Syntax.mut ElemName) (λ x. x) (Scalar.oFld 7 (List._∷_
+  s53 = Relend.k-sl-aggregate Elem (Relend.asMut Elem) T54 30 31 13 (Syntax.tyRef Syntax.erased Syntax.mut ElemName) (Syntax.tyRef Syntax.erased Syntax.mut ElemName) (λ x. x) (Scalar.oFld 7 (List._∷_
       (Syntax.field 1) List.[]) (Syntax.tyInt Syntax.w64) 8 λ v. Shared.lenV (v .0))
 
   abbrev s54 : Typed.Both T55 T56
   s54 = Call.callB ps·4 r·4 (claims· .8) (claims· .9) T55 (
-    record { pos = 30; ty = Syntax.tyRef Syntax.erased Syntax.mut ElemName; ref = λ x. x },
+    record { pos = 31; ty = Syntax.tyRef Syntax.erased Syntax.mut ElemName; ref = λ x. x },
     (
       record {
-        pos = 15;
+        pos = 16;
         st = List.[];
         d = 0;
         at = λ x.
@@ -1101,28 +1105,31 @@ module _ (claims· : Claims) where
       },
       tt,
     ),
-  ) 28 (List._∷_ 13 List.[]) Syntax.tyUnit
+  ) 29 (List._∷_ 13 List.[]) Syntax.tyUnit
 
   abbrev s55 : Typed.Mo T56 → Typed.Mo T57
-  s55 = Scalar.n-room T56 15 ty6
+  s55 = Scalar.n-room T56 16 ty6
 
   abbrev s56 : Typed.Mo T57 → Typed.Mo T58
-  s56 = Scalar.n-room T57 28 Syntax.tyUnit
+  s56 = Scalar.n-room T57 29 Syntax.tyUnit
 
   abbrev s58 : Typed.Both T58 T60
-  s58 = Relend.k-back-sl Elem T58 30 7 6 13 ty17 (Syntax.tyRef Syntax.erased Syntax.mut ElemName) Row.off (λ x. x) λ x. x
+  s58 = Relend.k-back-sl Elem T58 31 7 6 13 ty17 (Syntax.tyRef Syntax.erased Syntax.mut ElemName) Row.off (λ x. x) λ x. x
 
   abbrev s60 : Typed.Both T60 T62
-  s60 = Call.callB ps·5 r·5 (claims· .10) (claims· .11) T60 (record { pos = 14; st = List.[]; d = 0; at = λ x. x }, tt) 0 List.[] ty2
+  s60 = Call.callB ps·5 r·5 (claims· .10) (claims· .11) T60 (record { pos = 15; st = List.[]; d = 0; at = λ x. x }, tt) 0 List.[] ty2
 
   abbrev s61 : Typed.Mo T62 → Typed.Mo T63
-  s61 = Scalar.n-room T62 14 ty0
+  s61 = Scalar.n-room T62 15 ty0
 
   abbrev s62 : Typed.Mo T63 → Typed.Mo T64
   s62 = Scalar.n-room T63 8 (Syntax.tyInt Syntax.w64)
 
   abbrev s63 : Typed.Mo T64 → Typed.Mo T65
   s63 = Scalar.n-room T64 11 (Syntax.tyInt Syntax.w64)
+
+  abbrev s64 : Typed.Mo T65 → Typed.Mo T66
+  s64 = Scalar.n-room T65 12 (Syntax.tyInt Syntax.w64)
 
   module _ (Pre· : (κs : Lifetimes.Lfts 7) → Kinds.Dens κs ps → Type 0) (Post· : (κs : Lifetimes.Lfts 7) → (a : Kinds.Dens κs ps) → Kinds.Plain 7 ps r κs) where
     module _ (M : Type 1) where
@@ -1134,203 +1141,206 @@ module _ (claims· : Claims) where
           (Function.fnOf 7 ps r xs m hs body)) (Function.plainOf 𝓤 H A 7 ps r Pre· Post·)
 
     module _ where
-      abbrev at0 : Typed.TF T65 O0
+      abbrev at0 : Typed.TF T66 O0
       at0 = Typed.atRet O0
 
-      abbrev at1 : Typed.TF T64 O0
-      at1 = λ Ψ. Typed.pass T64 T65 s63 (at0 Ψ)
+      abbrev at1 : Typed.TF T65 O0
+      at1 = λ Ψ. Typed.pass T65 T66 s64 (at0 Ψ)
 
-      abbrev at2 : Typed.TF T63 O0
-      at2 = λ Ψ. Typed.pass T63 T64 s62 (at1 Ψ)
+      abbrev at2 : Typed.TF T64 O0
+      at2 = λ Ψ. Typed.pass T64 T65 s63 (at1 Ψ)
 
-      abbrev at3 : Typed.TF T62 O0
-      at3 = λ Ψ. Typed.pass T62 T63 s61 (at2 Ψ)
+      abbrev at3 : Typed.TF T63 O0
+      at3 = λ Ψ. Typed.pass T63 T64 s62 (at2 Ψ)
 
-      abbrev at4 : Typed.TF T60 O0
-      at4 = λ Ψ. Typed.both s60 (at3 Ψ)
+      abbrev at4 : Typed.TF T62 O0
+      at4 = λ Ψ. Typed.pass T62 T63 s61 (at3 Ψ)
 
       abbrev at5 : Typed.TF T60 O0
-      at5 = λ Ψ. at4 Ψ
+      at5 = λ Ψ. Typed.both s60 (at4 Ψ)
 
-      abbrev at6 : Typed.TF T58 O0
-      at6 = λ Ψ. Typed.both s58 (at5 Ψ)
+      abbrev at6 : Typed.TF T60 O0
+      at6 = λ Ψ. at5 Ψ
 
       abbrev at7 : Typed.TF T58 O0
-      at7 = λ Ψ. at6 Ψ
+      at7 = λ Ψ. Typed.both s58 (at6 Ψ)
 
-      abbrev at8 : Typed.TF T57 O0
-      at8 = λ Ψ. Typed.pass T57 T58 s56 (at7 Ψ)
+      abbrev at8 : Typed.TF T58 O0
+      at8 = λ Ψ. at7 Ψ
 
-      abbrev at9 : Typed.TF T56 O0
-      at9 = λ Ψ. Typed.pass T56 T57 s55 (at8 Ψ)
+      abbrev at9 : Typed.TF T57 O0
+      at9 = λ Ψ. Typed.pass T57 T58 s56 (at8 Ψ)
 
-      abbrev at10 : Typed.TF T55 O0
-      at10 = λ Ψ. Typed.both s54 (at9 Ψ)
+      abbrev at10 : Typed.TF T56 O0
+      at10 = λ Ψ. Typed.pass T56 T57 s55 (at9 Ψ)
 
-      abbrev at11 : Typed.TF T54 O0
-      at11 = λ Ψ. Typed.ask s53 (at10 Ψ)
+      abbrev at11 : Typed.TF T55 O0
+      at11 = λ Ψ. Typed.both s54 (at10 Ψ)
 
-      abbrev at12 : Typed.TF T52 O0
-      at12 = λ Ψ. Typed.give s52 (at11 Ψ)
+      abbrev at12 : Typed.TF T54 O0
+      at12 = λ Ψ. Typed.ask s53 (at11 Ψ)
 
       abbrev at13 : Typed.TF T52 O0
-      at13 = λ Ψ. at12 Ψ
+      at13 = λ Ψ. Typed.give s52 (at12 Ψ)
 
-      abbrev at14 : Typed.TF T50 O0
-      at14 = λ Ψ. Typed.both s50 (at13 Ψ)
+      abbrev at14 : Typed.TF T52 O0
+      at14 = λ Ψ. at13 Ψ
 
       abbrev at15 : Typed.TF T50 O0
-      at15 = λ Ψ. at14 Ψ
+      at15 = λ Ψ. Typed.both s50 (at14 Ψ)
 
-      abbrev at16 : Typed.TF T47 O0
-      at16 = λ Ψ. Typed.both s48 (at15 Ψ)
+      abbrev at16 : Typed.TF T50 O0
+      at16 = λ Ψ. at15 Ψ
 
       abbrev at17 : Typed.TF T47 O0
-      at17 = λ Ψ. at16 Ψ
+      at17 = λ Ψ. Typed.both s48 (at16 Ψ)
 
       abbrev at18 : Typed.TF T47 O0
       at18 = λ Ψ. at17 Ψ
 
-      abbrev at19 : Typed.TF T46 O0
-      at19 = λ Ψ. Typed.give s45 (at18 Ψ)
+      abbrev at19 : Typed.TF T47 O0
+      at19 = λ Ψ. at18 Ψ
 
-      abbrev at20 : Typed.TF T43 O0
-      at20 = λ Ψ. Typed.both s44 (at19 Ψ)
+      abbrev at20 : Typed.TF T46 O0
+      at20 = λ Ψ. Typed.give s45 (at19 Ψ)
 
       abbrev at21 : Typed.TF T43 O0
-      at21 = λ Ψ. at20 Ψ
+      at21 = λ Ψ. Typed.both s44 (at20 Ψ)
 
       abbrev at22 : Typed.TF T43 O0
       at22 = λ Ψ. at21 Ψ
 
-      abbrev at23 : Typed.TF T42 O0
-      at23 = λ Ψ. Typed.give s41 (at22 Ψ)
+      abbrev at23 : Typed.TF T43 O0
+      at23 = λ Ψ. at22 Ψ
 
-      abbrev at24 : Typed.TF T39 O0
-      at24 = λ Ψ. Typed.both s40 (at23 Ψ)
+      abbrev at24 : Typed.TF T42 O0
+      at24 = λ Ψ. Typed.give s41 (at23 Ψ)
 
       abbrev at25 : Typed.TF T39 O0
-      at25 = λ Ψ. at24 Ψ
+      at25 = λ Ψ. Typed.both s40 (at24 Ψ)
 
       abbrev at26 : Typed.TF T39 O0
       at26 = λ Ψ. at25 Ψ
 
-      abbrev at27 : Typed.TF T36 O0
-      at27 = λ Ψ. Typed.both s37 (at26 Ψ)
+      abbrev at27 : Typed.TF T39 O0
+      at27 = λ Ψ. at26 Ψ
 
       abbrev at28 : Typed.TF T36 O0
-      at28 = λ Ψ. at27 Ψ
+      at28 = λ Ψ. Typed.both s37 (at27 Ψ)
 
       abbrev at29 : Typed.TF T36 O0
       at29 = λ Ψ. at28 Ψ
 
-      abbrev at30 : Typed.TF T35 O0
-      at30 = λ Ψ. Typed.give s34 (at29 Ψ)
+      abbrev at30 : Typed.TF T36 O0
+      at30 = λ Ψ. at29 Ψ
 
-      abbrev at31 : Typed.TF T33 O0
-      at31 = λ Ψ. Typed.both s33 (at30 Ψ)
+      abbrev at31 : Typed.TF T35 O0
+      at31 = λ Ψ. Typed.give s34 (at30 Ψ)
 
       abbrev at32 : Typed.TF T33 O0
-      at32 = λ Ψ. at31 Ψ
+      at32 = λ Ψ. Typed.both s33 (at31 Ψ)
 
-      abbrev at33 : Typed.TF T32 O0
-      at33 = λ Ψ. Typed.pass T32 T33 s31 (at32 Ψ)
+      abbrev at33 : Typed.TF T33 O0
+      at33 = λ Ψ. at32 Ψ
 
-      abbrev at34 : Typed.TF T31 O0
-      at34 = λ Ψ. Typed.both s30 (at33 Ψ)
+      abbrev at34 : Typed.TF T32 O0
+      at34 = λ Ψ. Typed.pass T32 T33 s31 (at33 Ψ)
 
-      abbrev at35 : Typed.TF T30 O0
-      at35 = λ Ψ. Typed.ask s29 (at34 Ψ)
+      abbrev at35 : Typed.TF T31 O0
+      at35 = λ Ψ. Typed.both s30 (at34 Ψ)
 
-      abbrev at36 : Typed.TF T28 O0
-      at36 = λ Ψ. Typed.give s28 (at35 Ψ)
+      abbrev at36 : Typed.TF T30 O0
+      at36 = λ Ψ. Typed.ask s29 (at35 Ψ)
 
       abbrev at37 : Typed.TF T28 O0
-      at37 = λ Ψ. at36 Ψ
+      at37 = λ Ψ. Typed.give s28 (at36 Ψ)
 
-      abbrev at38 : Typed.TF T27 O0
-      at38 = λ Ψ. Typed.ask s26 (at37 Ψ)
+      abbrev at38 : Typed.TF T28 O0
+      at38 = λ Ψ. at37 Ψ
 
-      abbrev at39 : Typed.TF T25 O0
-      at39 = λ Ψ. Typed.give s25 (at38 Ψ)
+      abbrev at39 : Typed.TF T27 O0
+      at39 = λ Ψ. Typed.ask s26 (at38 Ψ)
 
       abbrev at40 : Typed.TF T25 O0
-      at40 = λ Ψ. at39 Ψ
+      at40 = λ Ψ. Typed.give s25 (at39 Ψ)
 
-      abbrev at41 : Typed.TF T24 O0
-      at41 = λ Ψ. Typed.ask s23 (at40 Ψ)
+      abbrev at41 : Typed.TF T25 O0
+      at41 = λ Ψ. at40 Ψ
 
-      abbrev at42 : Typed.TF T22 O0
-      at42 = λ Ψ. Typed.give s22 (at41 Ψ)
+      abbrev at42 : Typed.TF T24 O0
+      at42 = λ Ψ. Typed.ask s23 (at41 Ψ)
 
       abbrev at43 : Typed.TF T22 O0
-      at43 = λ Ψ. at42 Ψ
+      at43 = λ Ψ. Typed.give s22 (at42 Ψ)
 
-      abbrev at44 : Typed.TF T21 O0
-      at44 = λ Ψ. Typed.ask s20 (at43 Ψ)
+      abbrev at44 : Typed.TF T22 O0
+      at44 = λ Ψ. at43 Ψ
 
-      abbrev at45 : Typed.TF T19 O0
-      at45 = λ Ψ. Typed.give s19 (at44 Ψ)
+      abbrev at45 : Typed.TF T21 O0
+      at45 = λ Ψ. Typed.ask s20 (at44 Ψ)
 
       abbrev at46 : Typed.TF T19 O0
-      at46 = λ Ψ. at45 Ψ
+      at46 = λ Ψ. Typed.give s19 (at45 Ψ)
 
-      abbrev at47 : Typed.TF T18 O0
-      at47 = λ Ψ. Typed.ask s17 (at46 Ψ)
+      abbrev at47 : Typed.TF T19 O0
+      at47 = λ Ψ. at46 Ψ
 
-      abbrev at48 : Typed.TF T16 O0
-      at48 = λ Ψ. Typed.give s16 (at47 Ψ)
+      abbrev at48 : Typed.TF T18 O0
+      at48 = λ Ψ. Typed.ask s17 (at47 Ψ)
 
       abbrev at49 : Typed.TF T16 O0
-      at49 = λ Ψ. at48 Ψ
+      at49 = λ Ψ. Typed.give s16 (at48 Ψ)
 
-      abbrev at50 : Typed.TF T15 O0
-      at50 = λ Ψ. Typed.pass T15 T16 s14 (at49 Ψ)
+      abbrev at50 : Typed.TF T16 O0
+      at50 = λ Ψ. at49 Ψ
 
-      abbrev at51 : Typed.TF T14 O0
-      at51 = λ Ψ. Typed.pass T14 T15 s13 (at50 Ψ)
+      abbrev at51 : Typed.TF T15 O0
+      at51 = λ Ψ. Typed.pass T15 T16 s14 (at50 Ψ)
 
-      abbrev at52 : Typed.TF T13 O0
-      at52 = λ Ψ. Typed.pass T13 T14 s12 (at51 Ψ)
+      abbrev at52 : Typed.TF T14 O0
+      at52 = λ Ψ. Typed.pass T14 T15 s13 (at51 Ψ)
 
-      abbrev at53 : Typed.TF T11 O0
-      at53 = λ Ψ. Typed.both s11 (at52 Ψ)
+      abbrev at53 : Typed.TF T13 O0
+      at53 = λ Ψ. Typed.pass T13 T14 s12 (at52 Ψ)
 
       abbrev at54 : Typed.TF T11 O0
-      at54 = λ Ψ. at53 Ψ
+      at54 = λ Ψ. Typed.both s11 (at53 Ψ)
 
-      abbrev at55 : Typed.TF T9 O0
-      at55 = λ Ψ. Typed.pass T9 T11 s9 (at54 Ψ)
+      abbrev at55 : Typed.TF T11 O0
+      at55 = λ Ψ. at54 Ψ
 
       abbrev at56 : Typed.TF T9 O0
-      at56 = λ Ψ. at55 Ψ
+      at56 = λ Ψ. Typed.pass T9 T11 s9 (at55 Ψ)
 
-      abbrev at57 : Typed.TF T8 O0
-      at57 = λ Ψ. Typed.pass T8 T9 s7 (at56 Ψ)
+      abbrev at57 : Typed.TF T9 O0
+      at57 = λ Ψ. at56 Ψ
 
-      abbrev at58 : Typed.TF T7 O0
-      at58 = λ Ψ. Typed.both s6 (at57 Ψ)
+      abbrev at58 : Typed.TF T8 O0
+      at58 = λ Ψ. Typed.pass T8 T9 s7 (at57 Ψ)
 
-      abbrev at59 : Typed.TF T6 O0
-      at59 = λ Ψ. Typed.ask s5 (at58 Ψ)
+      abbrev at59 : Typed.TF T7 O0
+      at59 = λ Ψ. Typed.both s6 (at58 Ψ)
 
-      abbrev at60 : Typed.TF T4 O0
-      at60 = λ Ψ. Typed.give s4 (at59 Ψ)
+      abbrev at60 : Typed.TF T6 O0
+      at60 = λ Ψ. Typed.ask s5 (at59 Ψ)
 
       abbrev at61 : Typed.TF T4 O0
-      at61 = λ Ψ. at60 Ψ
+      at61 = λ Ψ. Typed.give s4 (at60 Ψ)
 
-      abbrev at62 : Typed.TF T3 O0
-      at62 = λ Ψ. Typed.give s2 (at61 Ψ)
+      abbrev at62 : Typed.TF T4 O0
+      at62 = λ Ψ. at61 Ψ
 
-      abbrev at63 : Typed.TF T2 O0
-      at63 = λ Ψ. Typed.give s1 (at62 Ψ)
+      abbrev at63 : Typed.TF T3 O0
+      at63 = λ Ψ. Typed.give s2 (at62 Ψ)
 
-      abbrev at64 : Typed.TF T0 O0
-      at64 = λ Ψ. Typed.give s0 (at63 Ψ)
+      abbrev at64 : Typed.TF T2 O0
+      at64 = λ Ψ. Typed.give s1 (at63 Ψ)
+
+      abbrev at65 : Typed.TF T0 O0
+      at65 = λ Ψ. Typed.give s0 (at64 Ψ)
 
       abbrev pub Φ : Typed.TF T0 O0
-      Φ = at64
+      Φ = at65
 
       module _ {M : Type 1} (𝓤 : URA.URA M) (H : Wp.Heap 𝓤) (A : Atoms.Atoms 𝓤) (W : Kit.Given 𝓤 H A) (𝓣 : Wp.Tables 𝓤 H) where
         abbrev Knowns : Type 1
@@ -1351,8 +1361,10 @@ module _ (claims· : Claims) where
             (List._∷_ (8, Rows'.sc-here (Row.sInt Syntax.w64)) (List._∷_ (9, Rows'.whole (Declared.row Boundaries.the-type)) (List._∷_ (10, Rows'.whole (Declared.row Ledger.the-type)) (List._∷_ (
               11,
               Rows'.sc-here (Row.sInt Syntax.w64),
-            ) (List._∷_ (12, Rows'.any-gone ty4) (List._∷_ (13, Rows'.any-gone ty1) (List._∷_ (14, Rows'.any-gone ty0) (List._∷_ (15, Rows'.any-gone ty6)
-            List.[])))))))))))))))
+            ) (List._∷_ (12, Rows'.sc-here (Row.sInt Syntax.w64)) (List._∷_ (13, Rows'.any-gone ty4) (List._∷_ (14, Rows'.any-gone ty1) (List._∷_ (
+              15,
+              Rows'.any-gone ty0,
+            ) List.[])))))))))))))))
 
         abbrev g6 : List.List Row.Entry
         g6 = List._∷_ (0, Rows'.any-gone ty2) (List._∷_ (1, Rows'.sslice (Signed.SInt Syntax.w64) ty15 0) (List._∷_ (2, Mut.mslice (Referent.rtF (Referent.fInt Syntax.w64)) ty14 1) (List._∷_ (
@@ -1366,10 +1378,8 @@ module _ (claims· : Claims) where
             (List._∷_ (8, Rows'.sc-here (Row.sInt Syntax.w64)) (List._∷_ (9, Rows'.whole (Declared.row Boundaries.the-type)) (List._∷_ (10, Rows'.whole (Declared.row Ledger.the-type)) (List._∷_ (
               11,
               Rows'.sc-here (Row.sInt Syntax.w64),
-            ) (List._∷_ (12, Rows'.whole (Declared.row Outlets.the-type)) (List._∷_ (13, Rows'.any-gone ty1) (List._∷_ (14, Rows'.any-gone ty0) (List._∷_ (
-              15,
-              Rows'.any-gone ty6,
-            ) List.[])))))))))))))))
+            ) (List._∷_ (12, Rows'.sc-here (Row.sInt Syntax.w64)) (List._∷_ (13, Rows'.whole (Declared.row Outlets.the-type)) (List._∷_ (14, Rows'.any-gone ty1)
+            (List._∷_ (15, Rows'.any-gone ty0) List.[])))))))))))))))
 
         abbrev g12 : List.List Row.Entry
         g12 = List._∷_ (0, Rows'.any-gone ty2) (List._∷_ (1, Rows'.sslice (Signed.SInt Syntax.w64) ty15 0) (List._∷_ (
@@ -1383,8 +1393,11 @@ module _ (claims· : Claims) where
           8,
           Rows'.sc-here
               (Row.sInt Syntax.w64),
-        ) (List._∷_ (9, Rows'.any-gone ty5) (List._∷_ (10, Rows'.any-gone ty3) (List._∷_ (11, Rows'.sc-here (Row.sInt Syntax.w64)) (List._∷_ (12, Rows'.any-gone ty4)
-            (List._∷_ (13, Rows'.whole (Declared.row Held.the-type)) (List._∷_ (14, Rows'.any-gone ty0) (List._∷_ (15, Rows'.any-gone ty6) List.[])))))))))))))))
+        ) (List._∷_ (9, Rows'.any-gone ty5) (List._∷_ (10, Rows'.any-gone ty3) (List._∷_ (11, Rows'.sc-here (Row.sInt Syntax.w64)) (List._∷_ (
+          12,
+          Rows'.sc-here (Row.sInt
+              Syntax.w64),
+        ) (List._∷_ (13, Rows'.any-gone ty4) (List._∷_ (14, Rows'.whole (Declared.row Held.the-type)) (List._∷_ (15, Rows'.any-gone ty0) List.[])))))))))))))))
 
         abbrev g15 : List.List Row.Entry
         g15 = List._∷_ (0, Rows'.any-gone ty2) (List._∷_ (1, Rows'.sslice (Signed.SInt Syntax.w64) ty15 0) (List._∷_ (
@@ -1402,8 +1415,11 @@ module _ (claims· : Claims) where
           11,
           Rows'.sc-here (Row.sInt
               Syntax.w64),
-        ) (List._∷_ (12, Rows'.any-gone ty4) (List._∷_ (13, Rows'.whole (Declared.row Held.the-type)) (List._∷_ (14, Rows'.any-gone ty0) (List._∷_ (15, Rows'.any-gone ty6)
-            List.[])))))))))))))))
+        ) (List._∷_ (12, Rows'.sc-here (Row.sInt Syntax.w64)) (List._∷_ (13, Rows'.any-gone ty4) (List._∷_ (14, Rows'.whole (Declared.row Held.the-type)) (List._∷_ (
+          15,
+          Rows'.any-gone
+              ty0,
+        ) List.[])))))))))))))))
 
         abbrev g18 : List.List Row.Entry
         g18 = List._∷_ (0, Rows'.any-gone ty2) (List._∷_ (1, Rows'.sslice (Signed.SInt Syntax.w64) ty15 0) (List._∷_ (
@@ -1420,10 +1436,11 @@ module _ (claims· : Claims) where
         ) (List._∷_ (7, Mut.mslice Elem ty17 6) (List._∷_ (8, Rows'.sc-here (Row.sInt Syntax.w64)) (List._∷_ (9, Rows'.any-gone ty5) (List._∷_ (
           10,
           Rows'.any-gone ty3,
-        ) (List._∷_ (11, Rows'.sc-here (Row.sInt Syntax.w64)) (List._∷_ (12, Rows'.any-gone ty4) (List._∷_ (13, Rows'.whole (Declared.row Held.the-type)) (List._∷_ (
+        ) (List._∷_ (11, Rows'.sc-here (Row.sInt Syntax.w64)) (List._∷_ (12, Rows'.sc-here (Row.sInt Syntax.w64)) (List._∷_ (13, Rows'.any-gone ty4) (List._∷_ (
           14,
-          Rows'.any-gone ty0,
-        ) (List._∷_ (15, Rows'.any-gone ty6) List.[])))))))))))))))
+          Rows'.whole
+              (Declared.row Held.the-type),
+        ) (List._∷_ (15, Rows'.any-gone ty0) List.[])))))))))))))))
 
         abbrev g21 : List.List Row.Entry
         g21 = List._∷_ (0, Rows'.any-gone ty2) (List._∷_ (1, Rows'.sslice (Signed.SInt Syntax.w64) ty15 0) (List._∷_ (
@@ -1442,10 +1459,8 @@ module _ (claims· : Claims) where
           8,
           Rows'.sc-here (Row.sInt
               Syntax.w64),
-        ) (List._∷_ (9, Rows'.any-gone ty5) (List._∷_ (10, Rows'.any-gone ty3) (List._∷_ (11, Rows'.sc-here (Row.sInt Syntax.w64)) (List._∷_ (12, Rows'.any-gone ty4) (List._∷_ (
-          13,
-          Rows'.whole (Declared.row Held.the-type),
-        ) (List._∷_ (14, Rows'.any-gone ty0) (List._∷_ (15, Rows'.any-gone ty6) List.[])))))))))))))))
+        ) (List._∷_ (9, Rows'.any-gone ty5) (List._∷_ (10, Rows'.any-gone ty3) (List._∷_ (11, Rows'.sc-here (Row.sInt Syntax.w64)) (List._∷_ (12, Rows'.sc-here (Row.sInt Syntax.w64))
+            (List._∷_ (13, Rows'.any-gone ty4) (List._∷_ (14, Rows'.whole (Declared.row Held.the-type)) (List._∷_ (15, Rows'.any-gone ty0) List.[])))))))))))))))
 
         abbrev g24 : List.List Row.Entry
         g24 = List._∷_ (0, Rows'.any-gone ty2) (List._∷_ (1, Rows'.sslice (Signed.SInt Syntax.w64) ty15 0) (List._∷_ (
@@ -1465,8 +1480,10 @@ module _ (claims· : Claims) where
               11,
               Rows'.sc-here
                   (Row.sInt Syntax.w64),
-            ) (List._∷_ (12, Rows'.any-gone ty4) (List._∷_ (13, Rows'.whole (Declared.row Held.the-type)) (List._∷_ (14, Rows'.any-gone ty0) (List._∷_ (15, Rows'.any-gone ty6)
-            List.[])))))))))))))))
+            ) (List._∷_ (12, Rows'.sc-here (Row.sInt Syntax.w64)) (List._∷_ (13, Rows'.any-gone ty4) (List._∷_ (14, Rows'.whole (Declared.row Held.the-type)) (List._∷_ (
+              15,
+              Rows'.any-gone ty0,
+            ) List.[])))))))))))))))
 
         abbrev g27 : List.List Row.Entry
         g27 = List._∷_ (0, Rows'.any-gone ty2) (List._∷_ (1, Rows'.sslice (Signed.SInt Syntax.w64) ty15 0) (List._∷_ (
@@ -1486,8 +1503,10 @@ module _ (claims· : Claims) where
               11,
               Rows'.sc-here
                   (Row.sInt Syntax.w64),
-            ) (List._∷_ (12, Rows'.any-gone ty4) (List._∷_ (13, Rows'.whole (Declared.row Held.the-type)) (List._∷_ (14, Rows'.whole (Declared.row StepAnswer.the-type)) (List._∷_
-            (15, Rows'.any-gone ty6) List.[])))))))))))))))
+            ) (List._∷_ (12, Rows'.sc-here (Row.sInt Syntax.w64)) (List._∷_ (13, Rows'.any-gone ty4) (List._∷_ (14, Rows'.whole (Declared.row Held.the-type)) (List._∷_ (
+              15,
+              Rows'.whole (Declared.row StepAnswer.the-type),
+            ) List.[])))))))))))))))
 
         abbrev g29 : List.List Row.Entry
         g29 = List._∷_ (0, Rows'.any-gone ty2) (List._∷_ (1, Rows'.sslice (Signed.SInt Syntax.w64) ty15 0) (List._∷_ (
@@ -1507,10 +1526,10 @@ module _ (claims· : Claims) where
               11,
               Rows'.sc-here
                   (Row.sInt Syntax.w64),
-            ) (List._∷_ (12, Rows'.any-gone ty4) (List._∷_ (13, Rows'.any-gone ty1) (List._∷_ (14, Rows'.whole (Declared.row StepAnswer.the-type)) (List._∷_ (
+            ) (List._∷_ (12, Rows'.sc-here (Row.sInt Syntax.w64)) (List._∷_ (13, Rows'.any-gone ty4) (List._∷_ (14, Rows'.any-gone ty1) (List._∷_ (
               15,
-              Rows'.any-gone
-                  ty6,
+              Rows'.whole (Declared.row
+                  StepAnswer.the-type),
             ) List.[])))))))))))))))
 
         abbrev g30 : List.List Row.Entry
@@ -1527,9 +1546,9 @@ module _ (claims· : Claims) where
               Rows'.sc-here (Row.sInt Syntax.w64),
             ) (List._∷_ (9, Rows'.any-gone ty5) (List._∷_ (10, Rows'.any-gone ty3) (List._∷_ (11, Rows'.sc-here (Row.sInt Syntax.w64)) (List._∷_ (
               12,
-              Rows'.any-gone
-                  ty4,
-            ) (List._∷_ (13, Rows'.any-gone ty1) (List._∷_ (14, Rows'.whole (Declared.row StepAnswer.the-type)) (List._∷_ (15, Rows'.any-gone ty6) List.[])))))))))))))))
+              Rows'.sc-here
+                  (Row.sInt Syntax.w64),
+            ) (List._∷_ (13, Rows'.any-gone ty4) (List._∷_ (14, Rows'.any-gone ty1) (List._∷_ (15, Rows'.whole (Declared.row StepAnswer.the-type)) List.[])))))))))))))))
 
         abbrev g32 : List.List Row.Entry
         g32 = List._∷_ (0, Rows'.any-gone ty2) (List._∷_ (1, Rows'.sslice (Signed.SInt Syntax.w64) ty15 0) (List._∷_ (2, Mut.mslice (Referent.rtF (Referent.fInt Syntax.w64)) ty14 1) (List._∷_ (
@@ -1544,10 +1563,8 @@ module _ (claims· : Claims) where
               9,
               Rows'.any-gone
                   ty5,
-            ) (List._∷_ (10, Rows'.any-gone ty3) (List._∷_ (11, Rows'.sc-here (Row.sInt Syntax.w64)) (List._∷_ (12, Rows'.any-gone ty4) (List._∷_ (13, Rows'.any-gone ty1) (List._∷_ (
-              14,
-              Rows'.whole (Declared.row StepAnswer.the-type),
-            ) (List._∷_ (15, Rows'.any-gone ty6) List.[])))))))))))))))
+            ) (List._∷_ (10, Rows'.any-gone ty3) (List._∷_ (11, Rows'.sc-here (Row.sInt Syntax.w64)) (List._∷_ (12, Rows'.sc-here (Row.sInt Syntax.w64)) (List._∷_ (13, Rows'.any-gone ty4)
+            (List._∷_ (14, Rows'.any-gone ty1) (List._∷_ (15, Rows'.whole (Declared.row StepAnswer.the-type)) List.[])))))))))))))))
 
         abbrev g34 : List.List Row.Entry
         g34 = List._∷_ (0, Rows'.any-gone ty2) (List._∷_ (1, Rows'.sslice (Signed.SInt Syntax.w64) ty15 0) (List._∷_ (2, Mut.mslice (Referent.rtF (Referent.fInt Syntax.w64)) ty14 1) (List._∷_ (
@@ -1564,9 +1581,10 @@ module _ (claims· : Claims) where
         ) (List._∷_ (7, Mut.mslice Elem ty17 6) (List._∷_ (8, Rows'.sc-here (Row.sInt Syntax.w64)) (List._∷_ (9, Rows'.any-gone ty5) (List._∷_ (10, Rows'.any-gone ty3) (List._∷_ (
           11,
           Rows'.sc-here (Row.sInt Syntax.w64),
-        ) (List._∷_ (12, Rows'.any-gone ty4) (List._∷_ (13, Rows'.any-gone ty1) (List._∷_ (14, Rows'.whole (Declared.row StepAnswer.the-type)) (List._∷_ (
+        ) (List._∷_ (12, Rows'.sc-here (Row.sInt Syntax.w64)) (List._∷_ (13, Rows'.any-gone ty4) (List._∷_ (14, Rows'.any-gone ty1) (List._∷_ (
           15,
-          Rows'.any-gone ty6,
+          Rows'.whole
+              (Declared.row StepAnswer.the-type),
         ) List.[])))))))))))))))
 
         abbrev g36 : List.List Row.Entry
@@ -1582,9 +1600,9 @@ module _ (claims· : Claims) where
           Rows'.sc-here (Row.sInt Syntax.w64),
         ) (List._∷_ (9, Rows'.any-gone ty5) (List._∷_ (10, Rows'.any-gone ty3) (List._∷_ (11, Rows'.sc-here (Row.sInt Syntax.w64)) (List._∷_ (
           12,
-          Rows'.any-gone
-              ty4,
-        ) (List._∷_ (13, Rows'.any-gone ty1) (List._∷_ (14, Rows'.whole (Declared.row StepAnswer.the-type)) (List._∷_ (15, Rows'.any-gone ty6) List.[])))))))))))))))
+          Rows'.sc-here
+              (Row.sInt Syntax.w64),
+        ) (List._∷_ (13, Rows'.any-gone ty4) (List._∷_ (14, Rows'.any-gone ty1) (List._∷_ (15, Rows'.whole (Declared.row StepAnswer.the-type)) List.[])))))))))))))))
 
         abbrev g40 : List.List Row.Entry
         g40 = List._∷_ (0, Rows'.any-gone ty2) (List._∷_ (1, Rows'.sslice (Signed.SInt Syntax.w64) ty15 0) (List._∷_ (2, Mut.mslice (Referent.rtF (Referent.fInt Syntax.w64)) ty14 1) (List._∷_ (
@@ -1597,23 +1615,9 @@ module _ (claims· : Claims) where
         ) (List._∷_ (6, Mut.mslice (Signed.SInt Syntax.w64) ty10 5) (List._∷_ (7, Relend.mslice-owed Elem ty17 6 13 (Row.lease (κs .1 .1 .1 .1 .1 .1 .0) (qs .1 .1 .1 .1 .1 .1 .0)))
             (List._∷_ (8, Rows'.sc-here (Row.sInt Syntax.w64)) (List._∷_ (9, Rows'.any-gone ty5) (List._∷_ (10, Rows'.any-gone ty3) (List._∷_ (11, Rows'.sc-here (Row.sInt Syntax.w64)) (List._∷_ (
               12,
-              Rows'.any-gone ty4,
-            ) (List._∷_ (13, Rows'.any-gone ty1) (List._∷_ (14, Rows'.whole (Declared.row StepAnswer.the-type)) (List._∷_ (15, Rows.arrF (Declared.row Outlet.the-type) 32 0)
+              Rows'.sc-here (Row.sInt Syntax.w64),
+            ) (List._∷_ (13, Rows'.any-gone ty4) (List._∷_ (14, Rows'.any-gone ty1) (List._∷_ (15, Rows'.whole (Declared.row StepAnswer.the-type))
             List.[])))))))))))))))
-
-        abbrev g44 : List.List Row.Entry
-        g44 = List._∷_ (0, Rows'.any-gone ty2) (List._∷_ (1, Rows'.sslice (Signed.SInt Syntax.w64) ty15 0) (List._∷_ (2, Mut.mslice (Referent.rtF (Referent.fInt Syntax.w64)) ty14 1) (List._∷_ (
-          3,
-          Mut.mslice (Signed.SInt Syntax.w64) ty13 2,
-        ) (List._∷_ (4, Mut.mslice (Referent.rtF (Referent.fInt Syntax.w64)) ty12 3) (List._∷_ (
-          5,
-          Mut.mslice (Referent.rtF (Referent.fInt Syntax.w64))
-              ty11 4,
-        ) (List._∷_ (6, Mut.mslice (Signed.SInt Syntax.w64) ty10 5) (List._∷_ (7, Relend.mslice-owed Elem ty17 6 13 (Row.lease (κs .1 .1 .1 .1 .1 .1 .0) (qs .1 .1 .1 .1 .1 .1 .0)))
-            (List._∷_ (8, Rows'.sc-here (Row.sInt Syntax.w64)) (List._∷_ (9, Rows'.any-gone ty5) (List._∷_ (10, Rows'.any-gone ty3) (List._∷_ (11, Rows'.sc-here (Row.sInt Syntax.w64)) (List._∷_ (
-              12,
-              Rows'.any-gone ty4,
-            ) (List._∷_ (13, Rows'.any-gone ty1) (List._∷_ (14, Rows'.whole (Declared.row StepAnswer.the-type)) (List._∷_ (15, Rows'.any-gone ty6) List.[])))))))))))))))
 
         abbrev G0 : Row.Cx
         G0 = record {
@@ -1924,11 +1928,11 @@ module _ (claims· : Claims) where
         G51 = record { locals = List._++_ t38 t1; slots = G0 .slots }
 
         abbrev G52 : Row.Cx
-        G52 = record { locals = List._++_ t39 t1; slots = G0 .slots }
+        G52 = record { locals = List._++_ t38 t39; slots = G0 .slots }
 
         abbrev G53 : Row.Cx
         G53 = record {
-          locals = List._++_ t39 t1;
+          locals = List._++_ t38 t39;
           slots = List._∷_ (Row.lease (κs .0) (qs .0)) (List._∷_ (Row.lease (κs .1 .0) (qs .1 .0)) (List._∷_ (Row.lease (κs .1 .1 .0) (qs .1 .1 .0)) (List._∷_
               (Row.lease (κs .1 .1 .1 .0) (qs .1 .1 .1 .0)) (List._∷_ (Row.lease (κs .1 .1 .1 .1 .0) (qs .1 .1 .1 .1 .0)) (List._∷_ (Row.lease (κs .1 .1 .1 .1 .1 .0) (qs .1 .1 .1 .1 .1 .0)) (List._∷_
               (Row.lease (κs .1 .1 .1 .1 .1 .1 .0) (qs .1 .1 .1 .1 .1 .1 .0)) (List._∷_ Row.off (List._∷_ Row.off (List._∷_ Row.off (List._∷_ Row.off (List._∷_ Row.off (List._∷_ Row.off (List._∷_
@@ -1950,14 +1954,14 @@ module _ (claims· : Claims) where
         G56 = record { locals = List._++_ g40 t43; slots = G54 .slots }
 
         abbrev G57 : Row.Cx
-        G57 = record { locals = List._++_ g44 t43; slots = G54 .slots }
+        G57 = record { locals = List._++_ g40 t44; slots = G54 .slots }
 
         abbrev G58 : Row.Cx
-        G58 = record { locals = List._++_ g44 t45; slots = G54 .slots }
+        G58 = record { locals = List._++_ g40 t45; slots = G54 .slots }
 
         abbrev G59 : Row.Cx
         G59 = record {
-          locals = List._++_ g44 t45;
+          locals = List._++_ g40 t45;
           slots = List._∷_ (Row.lease (κs .0) (qs .0)) (List._∷_ (Row.lease (κs .1 .0) (qs .1 .0)) (List._∷_ (Row.lease (κs .1 .1 .0) (qs .1 .1 .0)) (List._∷_
               (Row.lease (κs .1 .1 .1 .0) (qs .1 .1 .1 .0)) (List._∷_ (Row.lease (κs .1 .1 .1 .1 .0) (qs .1 .1 .1 .1 .0)) (List._∷_ (Row.lease (κs .1 .1 .1 .1 .1 .0) (qs .1 .1 .1 .1 .1 .0)) (List._∷_
               Row.off (List._∷_ Row.off (List._∷_ Row.off (List._∷_ Row.off (List._∷_ Row.off (List._∷_ Row.off (List._∷_ Row.off (List._∷_ Row.dead List.[])))))))))))));
@@ -1985,7 +1989,10 @@ module _ (claims· : Claims) where
         G64 = record { locals = List._++_ t48 t1; slots = G0 .slots }
 
         abbrev G65 : Row.Cx
-        G65 = record { locals = List._++_ t2 t1; slots = G0 .slots }
+        G65 = record { locals = List._++_ t49 t1; slots = G0 .slots }
+
+        abbrev G66 : Row.Cx
+        G66 = record { locals = List._++_ t2 t1; slots = G0 .slots }
 
         abbrev Δ0 : Typed.Outs
         Δ0 = record { next = Option.none; exits = List.[]; returns = Option.some G1 }
@@ -1995,21 +2002,24 @@ module _ (claims· : Claims) where
           abbrev E : Wp.Env 𝓤 H
           E = Frame.EnvOf 𝓤 H (List._∷_ (Kinds.tyR r) (Enter.tysP ps xs)) bs
 
-          d0 : Typed.Typed 𝓤 H A 𝓣 E G65 b20 Δ0 at0
+          d0 : Typed.Typed 𝓤 H A 𝓣 E G66 b20 Δ0 at0
           d0 = Typed.t-return 𝓤 H A W 𝓣 E Δ0 tt
 
-          d1 : Typed.Typed 𝓤 H A 𝓣 E G64 b20 Δ0 at1
-          d1 = Typed.g-pre 𝓤 H A W 𝓣 E G64 G65 b20 Δ0 (Typed.pass T64 T65 s63) at0 (Scalar.g-room 𝓤 H A W E G64 11 (Syntax.tyInt Syntax.w64) (Scalar.room-sc 𝓤 H A W (Row.sInt Syntax.w64))) d0
+          d1 : Typed.Typed 𝓤 H A 𝓣 E G65 b20 Δ0 at1
+          d1 = Typed.g-pre 𝓤 H A W 𝓣 E G65 G66 b20 Δ0 (Typed.pass T65 T66 s64) at0 (Scalar.g-room 𝓤 H A W E G65 12 (Syntax.tyInt Syntax.w64) (Scalar.room-sc 𝓤 H A W (Row.sInt Syntax.w64))) d0
 
-          d2 : Typed.Typed 𝓤 H A 𝓣 E G63 b20 Δ0 at2
-          d2 = Typed.g-pre 𝓤 H A W 𝓣 E G63 G64 b20 Δ0 (Typed.pass T63 T64 s62) at1 (Scalar.g-room 𝓤 H A W E G63 8 (Syntax.tyInt Syntax.w64) (Scalar.room-sc 𝓤 H A W (Row.sInt Syntax.w64))) d1
+          d2 : Typed.Typed 𝓤 H A 𝓣 E G64 b20 Δ0 at2
+          d2 = Typed.g-pre 𝓤 H A W 𝓣 E G64 G65 b20 Δ0 (Typed.pass T64 T65 s63) at1 (Scalar.g-room 𝓤 H A W E G64 11 (Syntax.tyInt Syntax.w64) (Scalar.room-sc 𝓤 H A W (Row.sInt Syntax.w64))) d1
 
-          d3 : Typed.Typed 𝓤 H A 𝓣 E G62 b20 Δ0 at3
-          d3 = Typed.g-pre 𝓤 H A W 𝓣 E G62 G63 b20 Δ0 (Typed.pass T62 T63 s61) at2 (Scalar.g-room 𝓤 H A W E G62 14 ty0 (Local.room-whole 𝓤 H A W (Declared.row StepAnswer.the-type) ty0 Path'.refl)) d2
+          d3 : Typed.Typed 𝓤 H A 𝓣 E G63 b20 Δ0 at3
+          d3 = Typed.g-pre 𝓤 H A W 𝓣 E G63 G64 b20 Δ0 (Typed.pass T63 T64 s62) at2 (Scalar.g-room 𝓤 H A W E G63 8 (Syntax.tyInt Syntax.w64) (Scalar.room-sc 𝓤 H A W (Row.sInt Syntax.w64))) d2
 
-          d4 : Typed.Typed 𝓤 H A 𝓣 E G61 b21 Δ0 at4
-          d4 = Typed.s-seq 𝓤 H A W 𝓣 E G61 G62 b19 b20 Δ0 (Typed.both s60) at3 (Plain.t-call-plain 𝓤 H A W 𝓣 0 ps·5 r·5 (claims· .10) (claims· .11) "jemmyfern_c::answer::step_answer" (known .5) E
-              (λ pos β. β) G61 (record { pos = 14; st = List.[]; d = 0; at = λ x. x }, tt) 0 List.[] (Call.sub-id 𝓤 H A W (G61 .slots)) (
+          d4 : Typed.Typed 𝓤 H A 𝓣 E G62 b20 Δ0 at4
+          d4 = Typed.g-pre 𝓤 H A W 𝓣 E G62 G63 b20 Δ0 (Typed.pass T62 T63 s61) at3 (Scalar.g-room 𝓤 H A W E G62 15 ty0 (Local.room-whole 𝓤 H A W (Declared.row StepAnswer.the-type) ty0 Path'.refl)) d3
+
+          d5 : Typed.Typed 𝓤 H A 𝓣 E G61 b21 Δ0 at5
+          d5 = Typed.s-seq 𝓤 H A W 𝓣 E G61 G62 b19 b20 Δ0 (Typed.both s60) at4 (Plain.t-call-plain 𝓤 H A W 𝓣 0 ps·5 r·5 (claims· .10) (claims· .11) "jemmyfern_c::answer::step_answer" (known .5) E
+              (λ pos β. β) G61 (record { pos = 15; st = List.[]; d = 0; at = λ x. x }, tt) 0 List.[] (Call.sub-id 𝓤 H A W (G61 .slots)) (
                 (
                   Yields.yields-copy 𝓤 H A W (λ ρ. Unit) (Declared.row
                       StepAnswer.the-type) Path'.refl (Copies.cStruct StepAnswer.the-type Laws'6.the-laws Laws'6.the-copy .copy 𝓤 H A W) (Rows'.whole (Declared.row StepAnswer.the-type)) (λ x. x) (λ x. x)
@@ -2018,28 +2028,28 @@ module _ (claims· : Claims) where
                 ),
                 tt,
               ) (Reads.room-gone 𝓤 H A
-              ty2) tt Path'.refl) d3
+              ty2) tt Path'.refl) d4
 
-          d5 : Typed.Typed 𝓤 H A 𝓣 E G60 b21 Δ0 at5
-          d5 = Typed.g-pre 𝓤 H A W 𝓣 E G60 G61 b21 Δ0 (λ Ψ. Ψ) at4 (Lifetime.g-forget 𝓤 H A W E G60 13 Row.dead Path'.refl) d4
+          d6 : Typed.Typed 𝓤 H A 𝓣 E G60 b21 Δ0 at6
+          d6 = Typed.g-pre 𝓤 H A W 𝓣 E G60 G61 b21 Δ0 (λ Ψ. Ψ) at5 (Lifetime.g-forget 𝓤 H A W E G60 13 Row.dead Path'.refl) d5
 
-          d6 : Typed.Typed 𝓤 H A 𝓣 E G59 b21 Δ0 at6
-          d6 = Typed.g-pre 𝓤 H A W 𝓣 E G59 G60 b21 Δ0 (Typed.both s58) at5 (Relend.g-back-sl 𝓤 H A W E Elem G59 30 7 6 13 ty17 (Syntax.tyRef Syntax.erased Syntax.mut ElemName) (Row.lease (κs .1 .1 .1
+          d7 : Typed.Typed 𝓤 H A 𝓣 E G59 b21 Δ0 at7
+          d7 = Typed.g-pre 𝓤 H A W 𝓣 E G59 G60 b21 Δ0 (Typed.both s58) at6 (Relend.g-back-sl 𝓤 H A W E Elem G59 31 7 6 13 ty17 (Syntax.tyRef Syntax.erased Syntax.mut ElemName) (Row.lease (κs .1 .1 .1
               .1 .1 .1 .0) (qs .1 .1 .1 .1 .1 .1 .0)) (λ x. x) (λ x. x) (Reads.as-is 𝓤 H A (Mut.msleft Elem (Syntax.tyRef Syntax.erased Syntax.mut ElemName))) (Reads.as-is 𝓤 H A (Relend.mslice-owed
-              Elem ty17 6 13 (Row.lease (κs .1 .1 .1 .1 .1 .1 .0) (qs .1 .1 .1 .1 .1 .1 .0)))) Path'.refl Path'.refl) d5
+              Elem ty17 6 13 (Row.lease (κs .1 .1 .1 .1 .1 .1 .0) (qs .1 .1 .1 .1 .1 .1 .0)))) Path'.refl Path'.refl) d6
 
-          d7 : Typed.Typed 𝓤 H A 𝓣 E G58 b21 Δ0 at7
-          d7 = Typed.g-pre 𝓤 H A W 𝓣 E G58 G59 b21 Δ0 (λ Ψ. Ψ) at6 (Lifetime.g-end 𝓤 H A W E G58 13 Path'.refl) d6
+          d8 : Typed.Typed 𝓤 H A 𝓣 E G58 b21 Δ0 at8
+          d8 = Typed.g-pre 𝓤 H A W 𝓣 E G58 G59 b21 Δ0 (λ Ψ. Ψ) at7 (Lifetime.g-end 𝓤 H A W E G58 13 Path'.refl) d7
 
-          d8 : Typed.Typed 𝓤 H A 𝓣 E G57 b21 Δ0 at8
-          d8 = Typed.g-pre 𝓤 H A W 𝓣 E G57 G58 b21 Δ0 (Typed.pass T57 T58 s56) at7 (Scalar.g-room 𝓤 H A W E G57 28 Syntax.tyUnit (Scalar.room-sc 𝓤 H A W Row.sUnit)) d7
+          d9 : Typed.Typed 𝓤 H A 𝓣 E G57 b21 Δ0 at9
+          d9 = Typed.g-pre 𝓤 H A W 𝓣 E G57 G58 b21 Δ0 (Typed.pass T57 T58 s56) at8 (Scalar.g-room 𝓤 H A W E G57 29 Syntax.tyUnit (Scalar.room-sc 𝓤 H A W Row.sUnit)) d8
 
-          d9 : Typed.Typed 𝓤 H A 𝓣 E G56 b21 Δ0 at9
-          d9 = Typed.g-pre 𝓤 H A W 𝓣 E G56 G57 b21 Δ0 (Typed.pass T56 T57 s55) at8 (Scalar.g-room 𝓤 H A W E G56 15 ty6 (Init.room-arr 𝓤 H A W (Declared.row Outlet.the-type) 32 0 32 Path'.refl)) d8
+          d10 : Typed.Typed 𝓤 H A 𝓣 E G56 b21 Δ0 at10
+          d10 = Typed.g-pre 𝓤 H A W 𝓣 E G56 G57 b21 Δ0 (Typed.pass T56 T57 s55) at9 (Scalar.g-room 𝓤 H A W E G56 16 ty6 (Init.room-arr 𝓤 H A W (Declared.row Outlet.the-type) 32 0 32 Path'.refl)) d9
 
-          d10 : Typed.Typed 𝓤 H A 𝓣 E G55 b22 Δ0 at10
-          d10 = Typed.s-seq 𝓤 H A W 𝓣 E G55 G56 b18 b21 Δ0 (Typed.both s54) at9 (Plain.t-call-plain 𝓤 H A W 𝓣 1 ps·4 r·4 (claims· .8) (claims· .9) "outlet::store" (known .4) E (λ pos β. β) G55
-              (record { pos = 30; ty = Syntax.tyRef Syntax.erased Syntax.mut ElemName; ref = λ x. x }, (record { pos = 15; st = List.[]; d = 0; at = λ x. x }, tt)) 28 (List._∷_ 13 List.[])
+          d11 : Typed.Typed 𝓤 H A 𝓣 E G55 b22 Δ0 at11
+          d11 = Typed.s-seq 𝓤 H A W 𝓣 E G55 G56 b18 b21 Δ0 (Typed.both s54) at10 (Plain.t-call-plain 𝓤 H A W 𝓣 1 ps·4 r·4 (claims· .8) (claims· .9) "outlet::store" (known .4) E (λ pos β. β) G55
+              (record { pos = 31; ty = Syntax.tyRef Syntax.erased Syntax.mut ElemName; ref = λ x. x }, (record { pos = 16; st = List.[]; d = 0; at = λ x. x }, tt)) 29 (List._∷_ 13 List.[])
               (Call.sub-id 𝓤 H A W (G55 .slots)) (
                 Reads.as-is 𝓤 H A (Mut.mslice Elem (Syntax.tyRef Syntax.erased Syntax.mut ElemName) 13),
                 Mut.reads-mslice 𝓤 H A W Elem (Syntax.tyRef Syntax.erased
@@ -2053,24 +2063,24 @@ module _ (claims· : Claims) where
                   ),
                   tt,
                 ),
-              ) (Reads.room-gone 𝓤 H A Syntax.tyUnit) (tt, tt) Path'.refl) d9
+              ) (Reads.room-gone 𝓤 H A Syntax.tyUnit) (tt, tt) Path'.refl) d10
 
-          d11 : Typed.Typed 𝓤 H A 𝓣 E G54 b23 Δ0 at11
-          d11 = Typed.s-seq 𝓤 H A W 𝓣 E G54 G55 b17 b22 Δ0 (Typed.ask s53) at10 (Relend.t-sl-aggregate 𝓤 H A W E Elem 𝓣 (Relend.asMut Elem) G54 29 30 13 (Syntax.tyRef Syntax.erased Syntax.mut
+          d12 : Typed.Typed 𝓤 H A 𝓣 E G54 b23 Δ0 at12
+          d12 = Typed.s-seq 𝓤 H A W 𝓣 E G54 G55 b17 b22 Δ0 (Typed.ask s53) at11 (Relend.t-sl-aggregate 𝓤 H A W E Elem 𝓣 (Relend.asMut Elem) G54 30 31 13 (Syntax.tyRef Syntax.erased Syntax.mut
               ElemName) (Syntax.tyRef Syntax.erased Syntax.mut ElemName) (λ x. x) (Scalar.oFld 7 (List._∷_ (Syntax.field 1) List.[]) (Syntax.tyInt Syntax.w64) 8 λ v. Shared.lenV (v .0)) (Reads.as-is
               𝓤 H A (Relend.msptr Elem (Syntax.tyRef Syntax.erased Syntax.mut ElemName) 13)) (Reads.room-gone 𝓤 H A ty8) (
                 Relend.reads-owed-len 𝓤 H A W Elem ty17 6 13 (Row.lease (κs .1 .1 .1 .1 .1 .1
                     .0) (qs .1 .1 .1 .1 .1 .1 .0)) 8 Path'.refl,
                 Path'.refl,
-              ) Path'.refl Path'.refl λ b o k. tt) d10
+              ) Path'.refl Path'.refl λ b o k. tt) d11
 
-          d12 : Typed.Typed 𝓤 H A 𝓣 E G53 b24 Δ0 at12
-          d12 = Typed.s-seq 𝓤 H A W 𝓣 E G53 G54 b16 b23 Δ0 (Typed.give s52) at11 (Relend.t-sl-relend 𝓤 H A W E Elem 𝓣 G53 7 29 6 13 ty17 (Syntax.tyRef Syntax.erased Syntax.mut ElemName) (Row.lease
+          d13 : Typed.Typed 𝓤 H A 𝓣 E G53 b24 Δ0 at13
+          d13 = Typed.s-seq 𝓤 H A W 𝓣 E G53 G54 b16 b23 Δ0 (Typed.give s52) at12 (Relend.t-sl-relend 𝓤 H A W E Elem 𝓣 G53 7 30 6 13 ty17 (Syntax.tyRef Syntax.erased Syntax.mut ElemName) (Row.lease
               (κs .1 .1 .1 .1 .1 .1 .0) (qs .1 .1 .1 .1 .1 .1 .0)) 0 (λ x. x) (Reads.as-is 𝓤 H A (Mut.mslice Elem ty17 6)) (Reads.room-gone 𝓤 H A (Syntax.tyRef Syntax.erased Syntax.mut ElemName))
-              Path'.refl tt Path'.refl Path'.refl Path'.refl λ b o. tt) d11
+              Path'.refl tt Path'.refl Path'.refl Path'.refl λ b o. tt) d12
 
-          d13 : Typed.Typed 𝓤 H A 𝓣 E G52 b24 Δ0 at13
-          d13 = Typed.g-pre 𝓤 H A W 𝓣 E G52 G53 b24 Δ0 (λ Ψ. Ψ) at12 (Lifetime.g-begin 𝓤 H A W E G52 13 (
+          d14 : Typed.Typed 𝓤 H A 𝓣 E G52 b24 Δ0 at14
+          d14 = Typed.g-pre 𝓤 H A W 𝓣 E G52 G53 b24 Δ0 (λ Ψ. Ψ) at13 (Lifetime.g-begin 𝓤 H A W E G52 13 (
             tt,
             (
               tt,
@@ -2108,7 +2118,7 @@ module _ (claims· : Claims) where
                                               tt,
                                               (
                                                 tt,
-                                                (tt, (tt, (tt, (tt, (tt, (tt, (tt, (tt, (tt, (tt, (tt, (tt, tt)))))))))))),
+                                                (tt, (tt, (tt, (tt, (tt, (tt, (tt, (tt, (tt, (tt, (tt, (tt, (tt, tt))))))))))))),
                                               ),
                                             ),
                                           ),
@@ -2127,11 +2137,11 @@ module _ (claims· : Claims) where
                 ),
               ),
             ),
-          )) d12
+          )) d13
 
-          d14 : Typed.Typed 𝓤 H A 𝓣 E G51 b25 Δ0 at14
-          d14 = Typed.s-seq 𝓤 H A W 𝓣 E G51 G52 b15 b24 Δ0 (Typed.both s50) at13 (Plain.t-call-plain 𝓤 H A W 𝓣 0 ps·3 r·3 (claims· .6) (claims· .7) "jemmyfern_c::answer::room_of" (known .3) E (λ pos
-              β. β) G51 (record { pos = 14; st = List._∷_ (Syntax.field 1) List.[]; d = 8; at = λ x. StepAnswer.struct .as-values x .1 .0 }, tt) 15 List.[] (Call.sub-id 𝓤 H A W (G51 .slots)) (
+          d15 : Typed.Typed 𝓤 H A 𝓣 E G51 b25 Δ0 at15
+          d15 = Typed.s-seq 𝓤 H A W 𝓣 E G51 G52 b15 b24 Δ0 (Typed.both s50) at14 (Plain.t-call-plain 𝓤 H A W 𝓣 0 ps·3 r·3 (claims· .6) (claims· .7) "jemmyfern_c::answer::room_of" (known .3) E (λ pos
+              β. β) G51 (record { pos = 15; st = List._∷_ (Syntax.field 1) List.[]; d = 8; at = λ x. StepAnswer.struct .as-values x .1 .0 }, tt) 16 List.[] (Call.sub-id 𝓤 H A W (G51 .slots)) (
                 (
                   Yields'.yields-acc 𝓤 H A W (Rows'.whole (Declared.row StepAnswer.the-type)) (Declared.row Held.the-type) 8 (λ x. StepAnswer.struct .as-values x .1 .0) Path'.refl (Copies.cStruct
                       Held.the-type Laws'4.the-laws Laws'4.the-copy .copy 𝓤 H A W) (Yields'.acc-record 𝓤 H A W (Rows'.whole (Declared.row StepAnswer.the-type)) Held.the-type 8 (λ x. StepAnswer.struct
@@ -2141,112 +2151,112 @@ module _ (claims· : Claims) where
                   Path'.refl,
                 ),
                 tt,
-              ) (Reads.room-gone 𝓤 H A ty6) tt Path'.refl) d13
+              ) (Reads.room-gone 𝓤 H A ty6) tt Path'.refl) d14
 
-          d15 : Typed.Typed 𝓤 H A 𝓣 E G50 b25 Δ0 at15
-          d15 = Typed.g-pre 𝓤 H A W 𝓣 E G50 G51 b25 Δ0 (λ Ψ. Ψ) at14 (Lifetime.g-forget 𝓤 H A W E G50 12 Row.dead Path'.refl) d14
+          d16 : Typed.Typed 𝓤 H A 𝓣 E G50 b25 Δ0 at16
+          d16 = Typed.g-pre 𝓤 H A W 𝓣 E G50 G51 b25 Δ0 (λ Ψ. Ψ) at15 (Lifetime.g-forget 𝓤 H A W E G50 12 Row.dead Path'.refl) d15
 
-          d16 : Typed.Typed 𝓤 H A 𝓣 E G49 b25 Δ0 at16
-          d16 = Typed.g-pre 𝓤 H A W 𝓣 E G49 G50 b25 Δ0 (Typed.both s48) at15 (Relend.g-back-sl 𝓤 H A W E (Signed.SInt Syntax.w64) G49 27 6 5 12 ty10 ty16 (Row.lease (κs .1 .1 .1 .1 .1 .0) (qs .1 .1
+          d17 : Typed.Typed 𝓤 H A 𝓣 E G49 b25 Δ0 at17
+          d17 = Typed.g-pre 𝓤 H A W 𝓣 E G49 G50 b25 Δ0 (Typed.both s48) at16 (Relend.g-back-sl 𝓤 H A W E (Signed.SInt Syntax.w64) G49 28 6 5 12 ty10 ty16 (Row.lease (κs .1 .1 .1 .1 .1 .0) (qs .1 .1
               .1 .1 .1 .0)) (λ x. x) (λ x. x) (Reads.as-is 𝓤 H A (Mut.msleft (Signed.SInt Syntax.w64) ty16)) (Reads.as-is 𝓤 H A (Relend.mslice-owed (Signed.SInt Syntax.w64) ty10 5 12 (Row.lease (κs
-              .1 .1 .1 .1 .1 .0) (qs .1 .1 .1 .1 .1 .0)))) Path'.refl Path'.refl) d15
+              .1 .1 .1 .1 .1 .0) (qs .1 .1 .1 .1 .1 .0)))) Path'.refl Path'.refl) d16
 
-          d17 : Typed.Typed 𝓤 H A 𝓣 E G48 b25 Δ0 at17
-          d17 = Typed.g-pre 𝓤 H A W 𝓣 E G48 G49 b25 Δ0 (λ Ψ. Ψ) at16 (Lifetime.g-end 𝓤 H A W E G48 12 Path'.refl) d16
+          d18 : Typed.Typed 𝓤 H A 𝓣 E G48 b25 Δ0 at18
+          d18 = Typed.g-pre 𝓤 H A W 𝓣 E G48 G49 b25 Δ0 (λ Ψ. Ψ) at17 (Lifetime.g-end 𝓤 H A W E G48 12 Path'.refl) d17
 
-          d18 : Typed.Typed 𝓤 H A 𝓣 E G47 b25 Δ0 at18
-          d18 = Typed.g-pre 𝓤 H A W 𝓣 E G47 G48 b25 Δ0 (λ Ψ. Ψ) at17 (Lifetime.g-forget 𝓤 H A W E G47 11 Row.dead Path'.refl) d17
+          d19 : Typed.Typed 𝓤 H A 𝓣 E G47 b25 Δ0 at19
+          d19 = Typed.g-pre 𝓤 H A W 𝓣 E G47 G48 b25 Δ0 (λ Ψ. Ψ) at18 (Lifetime.g-forget 𝓤 H A W E G47 11 Row.dead Path'.refl) d18
 
-          d19 : Typed.Typed 𝓤 H A 𝓣 E G46 b25 Δ0 at19
-          d19 = Typed.g-pre 𝓤 H A W 𝓣 E G46 G47 b25 Δ0 (Typed.give s45) at18 (Know.g-sl-known 𝓤 H A W (Referent.fInt Syntax.w64) E G46 5 4 ty11 (Row.lease (κs .1 .1 .1 .1 .0) (qs .1 .1 .1 .1 .0)) 0
-              (λ x. x) record { fits = Dec'.lit< tt } (Reads.as-is 𝓤 H A (Mut.mslice (Referent.rtF (Referent.fInt Syntax.w64)) ty11 4)) Path'.refl tt) d18
+          d20 : Typed.Typed 𝓤 H A 𝓣 E G46 b25 Δ0 at20
+          d20 = Typed.g-pre 𝓤 H A W 𝓣 E G46 G47 b25 Δ0 (Typed.give s45) at19 (Know.g-sl-known 𝓤 H A W (Referent.fInt Syntax.w64) E G46 5 4 ty11 (Row.lease (κs .1 .1 .1 .1 .0) (qs .1 .1 .1 .1 .0)) 0
+              (λ x. x) record { fits = Dec'.lit< tt } (Reads.as-is 𝓤 H A (Mut.mslice (Referent.rtF (Referent.fInt Syntax.w64)) ty11 4)) Path'.refl tt) d19
 
-          d20 : Typed.Typed 𝓤 H A 𝓣 E G45 b25 Δ0 at20
-          d20 = Typed.g-pre 𝓤 H A W 𝓣 E G45 G46 b25 Δ0 (Typed.both s44) at19 (Relend.g-back-sl 𝓤 H A W E (Referent.rtF (Referent.fInt Syntax.w64)) G45 25 5 4 11 ty11 ty16 (Row.lease (κs .1 .1 .1 .1
+          d21 : Typed.Typed 𝓤 H A 𝓣 E G45 b25 Δ0 at21
+          d21 = Typed.g-pre 𝓤 H A W 𝓣 E G45 G46 b25 Δ0 (Typed.both s44) at20 (Relend.g-back-sl 𝓤 H A W E (Referent.rtF (Referent.fInt Syntax.w64)) G45 26 5 4 11 ty11 ty16 (Row.lease (κs .1 .1 .1 .1
               .0) (qs .1 .1 .1 .1 .0)) (λ x. x) (λ x. x) (Reads.as-is 𝓤 H A (Mut.msleft (Referent.rtF (Referent.fInt Syntax.w64)) ty16)) (Reads.as-is 𝓤 H A (Relend.mslice-owed (Referent.rtF
-              (Referent.fInt Syntax.w64)) ty11 4 11 (Row.lease (κs .1 .1 .1 .1 .0) (qs .1 .1 .1 .1 .0)))) Path'.refl Path'.refl) d19
+              (Referent.fInt Syntax.w64)) ty11 4 11 (Row.lease (κs .1 .1 .1 .1 .0) (qs .1 .1 .1 .1 .0)))) Path'.refl Path'.refl) d20
 
-          d21 : Typed.Typed 𝓤 H A 𝓣 E G44 b25 Δ0 at21
-          d21 = Typed.g-pre 𝓤 H A W 𝓣 E G44 G45 b25 Δ0 (λ Ψ. Ψ) at20 (Lifetime.g-end 𝓤 H A W E G44 11 Path'.refl) d20
+          d22 : Typed.Typed 𝓤 H A 𝓣 E G44 b25 Δ0 at22
+          d22 = Typed.g-pre 𝓤 H A W 𝓣 E G44 G45 b25 Δ0 (λ Ψ. Ψ) at21 (Lifetime.g-end 𝓤 H A W E G44 11 Path'.refl) d21
 
-          d22 : Typed.Typed 𝓤 H A 𝓣 E G43 b25 Δ0 at22
-          d22 = Typed.g-pre 𝓤 H A W 𝓣 E G43 G44 b25 Δ0 (λ Ψ. Ψ) at21 (Lifetime.g-forget 𝓤 H A W E G43 10 Row.dead Path'.refl) d21
+          d23 : Typed.Typed 𝓤 H A 𝓣 E G43 b25 Δ0 at23
+          d23 = Typed.g-pre 𝓤 H A W 𝓣 E G43 G44 b25 Δ0 (λ Ψ. Ψ) at22 (Lifetime.g-forget 𝓤 H A W E G43 10 Row.dead Path'.refl) d22
 
-          d23 : Typed.Typed 𝓤 H A 𝓣 E G42 b25 Δ0 at23
-          d23 = Typed.g-pre 𝓤 H A W 𝓣 E G42 G43 b25 Δ0 (Typed.give s41) at22 (Know.g-sl-known 𝓤 H A W (Referent.fInt Syntax.w64) E G42 4 3 ty12 (Row.lease (κs .1 .1 .1 .0) (qs .1 .1 .1 .0)) 0 (λ x.
-              x) record { fits = Dec'.lit< tt } (Reads.as-is 𝓤 H A (Mut.mslice (Referent.rtF (Referent.fInt Syntax.w64)) ty12 3)) Path'.refl tt) d22
+          d24 : Typed.Typed 𝓤 H A 𝓣 E G42 b25 Δ0 at24
+          d24 = Typed.g-pre 𝓤 H A W 𝓣 E G42 G43 b25 Δ0 (Typed.give s41) at23 (Know.g-sl-known 𝓤 H A W (Referent.fInt Syntax.w64) E G42 4 3 ty12 (Row.lease (κs .1 .1 .1 .0) (qs .1 .1 .1 .0)) 0 (λ x.
+              x) record { fits = Dec'.lit< tt } (Reads.as-is 𝓤 H A (Mut.mslice (Referent.rtF (Referent.fInt Syntax.w64)) ty12 3)) Path'.refl tt) d23
 
-          d24 : Typed.Typed 𝓤 H A 𝓣 E G41 b25 Δ0 at24
-          d24 = Typed.g-pre 𝓤 H A W 𝓣 E G41 G42 b25 Δ0 (Typed.both s40) at23 (Relend.g-back-sl 𝓤 H A W E (Referent.rtF (Referent.fInt Syntax.w64)) G41 23 4 3 10 ty12 ty16 (Row.lease (κs .1 .1 .1 .0)
+          d25 : Typed.Typed 𝓤 H A 𝓣 E G41 b25 Δ0 at25
+          d25 = Typed.g-pre 𝓤 H A W 𝓣 E G41 G42 b25 Δ0 (Typed.both s40) at24 (Relend.g-back-sl 𝓤 H A W E (Referent.rtF (Referent.fInt Syntax.w64)) G41 24 4 3 10 ty12 ty16 (Row.lease (κs .1 .1 .1 .0)
               (qs .1 .1 .1 .0)) (λ x. x) (λ x. x) (Reads.as-is 𝓤 H A (Mut.msleft (Referent.rtF (Referent.fInt Syntax.w64)) ty16)) (Reads.as-is 𝓤 H A (Relend.mslice-owed (Referent.rtF (Referent.fInt
-              Syntax.w64)) ty12 3 10 (Row.lease (κs .1 .1 .1 .0) (qs .1 .1 .1 .0)))) Path'.refl Path'.refl) d23
+              Syntax.w64)) ty12 3 10 (Row.lease (κs .1 .1 .1 .0) (qs .1 .1 .1 .0)))) Path'.refl Path'.refl) d24
 
-          d25 : Typed.Typed 𝓤 H A 𝓣 E G40 b25 Δ0 at25
-          d25 = Typed.g-pre 𝓤 H A W 𝓣 E G40 G41 b25 Δ0 (λ Ψ. Ψ) at24 (Lifetime.g-end 𝓤 H A W E G40 10 Path'.refl) d24
+          d26 : Typed.Typed 𝓤 H A 𝓣 E G40 b25 Δ0 at26
+          d26 = Typed.g-pre 𝓤 H A W 𝓣 E G40 G41 b25 Δ0 (λ Ψ. Ψ) at25 (Lifetime.g-end 𝓤 H A W E G40 10 Path'.refl) d25
 
-          d26 : Typed.Typed 𝓤 H A 𝓣 E G39 b25 Δ0 at26
-          d26 = Typed.g-pre 𝓤 H A W 𝓣 E G39 G40 b25 Δ0 (λ Ψ. Ψ) at25 (Lifetime.g-forget 𝓤 H A W E G39 9 Row.dead Path'.refl) d25
+          d27 : Typed.Typed 𝓤 H A 𝓣 E G39 b25 Δ0 at27
+          d27 = Typed.g-pre 𝓤 H A W 𝓣 E G39 G40 b25 Δ0 (λ Ψ. Ψ) at26 (Lifetime.g-forget 𝓤 H A W E G39 9 Row.dead Path'.refl) d26
 
-          d27 : Typed.Typed 𝓤 H A 𝓣 E G38 b25 Δ0 at27
-          d27 = Typed.g-pre 𝓤 H A W 𝓣 E G38 G39 b25 Δ0 (Typed.both s37) at26 (Relend.g-back-sl 𝓤 H A W E (Signed.SInt Syntax.w64) G38 21 3 2 9 ty13 ty16 (Row.lease (κs .1 .1 .0) (qs .1 .1 .0)) (λ x.
+          d28 : Typed.Typed 𝓤 H A 𝓣 E G38 b25 Δ0 at28
+          d28 = Typed.g-pre 𝓤 H A W 𝓣 E G38 G39 b25 Δ0 (Typed.both s37) at27 (Relend.g-back-sl 𝓤 H A W E (Signed.SInt Syntax.w64) G38 22 3 2 9 ty13 ty16 (Row.lease (κs .1 .1 .0) (qs .1 .1 .0)) (λ x.
               x) (λ x. x) (Reads.as-is 𝓤 H A (Mut.msleft (Signed.SInt Syntax.w64) ty16)) (Reads.as-is 𝓤 H A (Relend.mslice-owed (Signed.SInt Syntax.w64) ty13 2 9 (Row.lease (κs .1 .1 .0) (qs .1 .1
-              .0)))) Path'.refl Path'.refl) d26
+              .0)))) Path'.refl Path'.refl) d27
 
-          d28 : Typed.Typed 𝓤 H A 𝓣 E G37 b25 Δ0 at28
-          d28 = Typed.g-pre 𝓤 H A W 𝓣 E G37 G38 b25 Δ0 (λ Ψ. Ψ) at27 (Lifetime.g-end 𝓤 H A W E G37 9 Path'.refl) d27
+          d29 : Typed.Typed 𝓤 H A 𝓣 E G37 b25 Δ0 at29
+          d29 = Typed.g-pre 𝓤 H A W 𝓣 E G37 G38 b25 Δ0 (λ Ψ. Ψ) at28 (Lifetime.g-end 𝓤 H A W E G37 9 Path'.refl) d28
 
-          d29 : Typed.Typed 𝓤 H A 𝓣 E G36 b25 Δ0 at29
-          d29 = Typed.g-pre 𝓤 H A W 𝓣 E G36 G37 b25 Δ0 (λ Ψ. Ψ) at28 (Lifetime.g-forget 𝓤 H A W E G36 8 Row.dead Path'.refl) d28
+          d30 : Typed.Typed 𝓤 H A 𝓣 E G36 b25 Δ0 at30
+          d30 = Typed.g-pre 𝓤 H A W 𝓣 E G36 G37 b25 Δ0 (λ Ψ. Ψ) at29 (Lifetime.g-forget 𝓤 H A W E G36 8 Row.dead Path'.refl) d29
 
-          d30 : Typed.Typed 𝓤 H A 𝓣 E G35 b25 Δ0 at30
-          d30 = Typed.g-pre 𝓤 H A W 𝓣 E G35 G36 b25 Δ0 (Typed.give s34) at29 (Know.g-sl-known 𝓤 H A W (Referent.fInt Syntax.w64) E G35 2 1 ty14 (Row.lease (κs .1 .0) (qs .1 .0)) 0 (λ x. x) record {
+          d31 : Typed.Typed 𝓤 H A 𝓣 E G35 b25 Δ0 at31
+          d31 = Typed.g-pre 𝓤 H A W 𝓣 E G35 G36 b25 Δ0 (Typed.give s34) at30 (Know.g-sl-known 𝓤 H A W (Referent.fInt Syntax.w64) E G35 2 1 ty14 (Row.lease (κs .1 .0) (qs .1 .0)) 0 (λ x. x) record {
             fits = Dec'.lit< tt;
-          } (Reads.as-is 𝓤 H A (Mut.mslice (Referent.rtF (Referent.fInt Syntax.w64)) ty14 1)) Path'.refl tt) d29
+          } (Reads.as-is 𝓤 H A (Mut.mslice (Referent.rtF (Referent.fInt Syntax.w64)) ty14 1)) Path'.refl tt) d30
 
-          d31 : Typed.Typed 𝓤 H A 𝓣 E G34 b25 Δ0 at31
-          d31 = Typed.g-pre 𝓤 H A W 𝓣 E G34 G35 b25 Δ0 (Typed.both s33) at30 (Relend.g-back-sl 𝓤 H A W E (Referent.rtF (Referent.fInt Syntax.w64)) G34 19 2 1 8 ty14 ty16 (Row.lease (κs .1 .0) (qs .1
+          d32 : Typed.Typed 𝓤 H A 𝓣 E G34 b25 Δ0 at32
+          d32 = Typed.g-pre 𝓤 H A W 𝓣 E G34 G35 b25 Δ0 (Typed.both s33) at31 (Relend.g-back-sl 𝓤 H A W E (Referent.rtF (Referent.fInt Syntax.w64)) G34 20 2 1 8 ty14 ty16 (Row.lease (κs .1 .0) (qs .1
               .0)) (λ x. x) (λ x. x) (Reads.as-is 𝓤 H A (Mut.msleft (Referent.rtF (Referent.fInt Syntax.w64)) ty16)) (Reads.as-is 𝓤 H A (Relend.mslice-owed (Referent.rtF (Referent.fInt Syntax.w64))
-              ty14 1 8 (Row.lease (κs .1 .0) (qs .1 .0)))) Path'.refl Path'.refl) d30
+              ty14 1 8 (Row.lease (κs .1 .0) (qs .1 .0)))) Path'.refl Path'.refl) d31
 
-          d32 : Typed.Typed 𝓤 H A 𝓣 E G33 b25 Δ0 at32
-          d32 = Typed.g-pre 𝓤 H A W 𝓣 E G33 G34 b25 Δ0 (λ Ψ. Ψ) at31 (Lifetime.g-end 𝓤 H A W E G33 8 Path'.refl) d31
+          d33 : Typed.Typed 𝓤 H A 𝓣 E G33 b25 Δ0 at33
+          d33 = Typed.g-pre 𝓤 H A W 𝓣 E G33 G34 b25 Δ0 (λ Ψ. Ψ) at32 (Lifetime.g-end 𝓤 H A W E G33 8 Path'.refl) d32
 
-          d33 : Typed.Typed 𝓤 H A 𝓣 E G32 b25 Δ0 at33
-          d33 = Typed.g-pre 𝓤 H A W 𝓣 E G32 G33 b25 Δ0 (Typed.pass T32 T33 s31) at32 (Scalar.g-room 𝓤 H A W E G32 13 ty1 (Local.room-whole 𝓤 H A W (Declared.row Held.the-type) ty1 Path'.refl)) d32
+          d34 : Typed.Typed 𝓤 H A 𝓣 E G32 b25 Δ0 at34
+          d34 = Typed.g-pre 𝓤 H A W 𝓣 E G32 G33 b25 Δ0 (Typed.pass T32 T33 s31) at33 (Scalar.g-room 𝓤 H A W E G32 14 ty1 (Local.room-whole 𝓤 H A W (Declared.row Held.the-type) ty1 Path'.refl)) d33
 
-          d34 : Typed.Typed 𝓤 H A 𝓣 E G31 b26 Δ0 at34
-          d34 = Typed.s-seq 𝓤 H A W 𝓣 E G31 G32 b14 b25 Δ0 (Typed.both s30) at33 (Plain.t-call-plain 𝓤 H A W 𝓣 6 ps·2 r·2 (claims· .4) (claims· .5) "stepping::step::step" (known .2) E (λ pos β. β)
+          d35 : Typed.Typed 𝓤 H A 𝓣 E G31 b26 Δ0 at35
+          d35 = Typed.s-seq 𝓤 H A W 𝓣 E G31 G32 b14 b25 Δ0 (Typed.both s30) at34 (Plain.t-call-plain 𝓤 H A W 𝓣 6 ps·2 r·2 (claims· .4) (claims· .5) "stepping::step::step" (known .2) E (λ pos β. β)
               G31 (
                 record { pos = 1; ty = Syntax.tyRef (Syntax.named 0) Syntax.imm (Syntax.tyInt Syntax.w64); ref = λ x. x },
                 (
                   record {
-                    pos = 19;
+                    pos = 20;
                     ty = Syntax.tyRef Syntax.erased Syntax.mut
                         (Syntax.tyInt Syntax.w64);
                     ref = λ x. x;
                   },
                   (
-                    record { pos = 21; ty = Syntax.tyRef Syntax.erased Syntax.mut (Syntax.tyInt Syntax.w64); ref = λ x. x },
+                    record { pos = 22; ty = Syntax.tyRef Syntax.erased Syntax.mut (Syntax.tyInt Syntax.w64); ref = λ x. x },
                     (
                       record {
-                        pos = 23;
+                        pos = 24;
                         ty =
                             Syntax.tyRef Syntax.erased Syntax.mut (Syntax.tyInt Syntax.w64);
                         ref = λ x. x;
                       },
                       (
                         record {
-                          pos = 25;
+                          pos = 26;
                           ty = Syntax.tyRef Syntax.erased Syntax.mut (Syntax.tyInt Syntax.w64);
                           ref = λ x. x;
                         },
                         (
-                          record { pos = 27; ty = Syntax.tyRef Syntax.erased Syntax.mut (Syntax.tyInt Syntax.w64); ref = λ x. x },
+                          record { pos = 28; ty = Syntax.tyRef Syntax.erased Syntax.mut (Syntax.tyInt Syntax.w64); ref = λ x. x },
                           (
                             Num.vAt 8 λ x. x,
                             (
-                              record { pos = 13; st = List.[]; d = 0; at = λ x. x },
-                              (Num.vAt 11 λ x. x, tt),
+                              record { pos = 14; st = List.[]; d = 0; at = λ x. x },
+                              (Num.vAt 11 λ x. x, (Num.vAt 12 λ x. x, tt)),
                             ),
                           ),
                         ),
@@ -2254,49 +2264,53 @@ module _ (claims· : Claims) where
                     ),
                   ),
                 ),
-              ) 14 (List._∷_ 0 (List._∷_ 8 (List._∷_ 9 (List._∷_ 10 (List._∷_ 11 (List._∷_ 12 List.[])))))) (Call.sub-id 𝓤 H A W (G31 .slots)) (
-                ShrSlice.spares-sslice 𝓤
-                    H A W (Signed.SInt Syntax.w64) ty15 0,
+              ) 15 (List._∷_ 0 (List._∷_ 8 (List._∷_ 9 (List._∷_ 10 (List._∷_ 11 (List._∷_ 12 List.[])))))) (Call.sub-id 𝓤 H A W (G31 .slots)) (
+                ShrSlice.spares-sslice 𝓤 H A W (Signed.SInt Syntax.w64) ty15 0,
                 Shared.reads-sslice 𝓤 H A W (Signed.SInt Syntax.w64) ty15 0,
                 Path'.refl,
                 (
-                  Reads.as-is 𝓤 H A (Mut.mslice (Referent.rtF (Referent.fInt Syntax.w64))
-                      ty16 8),
+                  Reads.as-is 𝓤 H A (Mut.mslice (Referent.rtF
+                      (Referent.fInt Syntax.w64)) ty16 8),
                   Mut.reads-mslice 𝓤 H A W (Referent.rtF (Referent.fInt Syntax.w64)) ty16 8,
                   Path'.refl,
                   (
-                    Reads.as-is 𝓤 H A (Mut.mslice (Signed.SInt Syntax.w64) ty16 9),
-                    Mut.reads-mslice 𝓤 H A W
-                        (Signed.SInt Syntax.w64) ty16 9,
+                    Reads.as-is 𝓤 H A (Mut.mslice (Signed.SInt Syntax.w64) ty16
+                        9),
+                    Mut.reads-mslice 𝓤 H A W (Signed.SInt Syntax.w64) ty16 9,
                     Path'.refl,
                     (
                       Reads.as-is 𝓤 H A (Mut.mslice (Referent.rtF (Referent.fInt Syntax.w64)) ty16 10),
-                      Mut.reads-mslice 𝓤 H A W (Referent.rtF (Referent.fInt
-                          Syntax.w64)) ty16 10,
+                      Mut.reads-mslice 𝓤 H A W
+                          (Referent.rtF (Referent.fInt Syntax.w64)) ty16 10,
                       Path'.refl,
                       (
                         Reads.as-is 𝓤 H A (Mut.mslice (Referent.rtF (Referent.fInt Syntax.w64)) ty16 11),
-                        Mut.reads-mslice 𝓤 H A W (Referent.rtF (Referent.fInt Syntax.w64))
-                            ty16 11,
+                        Mut.reads-mslice 𝓤 H A W (Referent.rtF
+                            (Referent.fInt Syntax.w64)) ty16 11,
                         Path'.refl,
                         (
                           Reads.as-is 𝓤 H A (Mut.mslice (Signed.SInt Syntax.w64) ty16 12),
                           Mut.reads-mslice 𝓤 H A W (Signed.SInt Syntax.w64) ty16 12,
                           Path'.refl,
                           (
-                            (
-                              Scalar.reads-sc 𝓤 H A W
-                                  (Row.sInt Syntax.w64),
-                              Path'.refl,
-                            ),
+                            (Scalar.reads-sc 𝓤 H A W (Row.sInt Syntax.w64), Path'.refl),
                             (
                               (
-                                Yields.yields-copy 𝓤 H A W (λ ρ. Unit) (Declared.row Held.the-type) Path'.refl (Copies.cStruct Held.the-type Laws'4.the-laws Laws'4.the-copy .copy
-                                    𝓤 H A W) (Rows'.whole (Declared.row Held.the-type)) (λ x. x) (λ x. x) (λ ρ told. Local.mem-whole 𝓤 H A W (Declared.row Held.the-type) ρ) λ ρ told. Local.whole-mem 𝓤 H A W (Declared.row
-                                    Held.the-type) ρ,
+                                Yields.yields-copy 𝓤 H A W (λ ρ. Unit) (Declared.row Held.the-type) Path'.refl (Copies.cStruct Held.the-type
+                                    Laws'4.the-laws Laws'4.the-copy .copy 𝓤 H A W) (Rows'.whole (Declared.row Held.the-type)) (λ x. x) (λ x. x) (λ ρ told. Local.mem-whole 𝓤 H A W (Declared.row Held.the-type) ρ) λ ρ told.
+                                    Local.whole-mem 𝓤 H A W (Declared.row Held.the-type) ρ,
                                 Path'.refl,
                               ),
-                              ((Scalar.reads-sc 𝓤 H A W (Row.sInt Syntax.w64), Path'.refl), tt),
+                              (
+                                (Scalar.reads-sc 𝓤 H A W (Row.sInt Syntax.w64), Path'.refl),
+                                (
+                                  (
+                                    Scalar.reads-sc 𝓤 H A W (Row.sInt Syntax.w64),
+                                    Path'.refl,
+                                  ),
+                                  tt,
+                                ),
+                              ),
                             ),
                           ),
                         ),
@@ -2304,21 +2318,20 @@ module _ (claims· : Claims) where
                     ),
                   ),
                 ),
-              ) (Reads.room-gone 𝓤 H A ty0) (tt, (tt, (tt, (tt, (tt, (tt, tt)))))) Path'.refl)
-              d33
+              ) (Reads.room-gone 𝓤 H A ty0) (tt, (tt, (tt, (tt, (tt, (tt, tt)))))) Path'.refl) d34
 
-          d35 : Typed.Typed 𝓤 H A 𝓣 E G30 b27 Δ0 at35
-          d35 = Typed.s-seq 𝓤 H A W 𝓣 E G30 G31 b13 b26 Δ0 (Typed.ask s29) at34 (Relend.t-sl-aggregate 𝓤 H A W E (Signed.SInt Syntax.w64) 𝓣 (Relend.asMut (Signed.SInt Syntax.w64)) G30 26 27 12 ty16
+          d36 : Typed.Typed 𝓤 H A 𝓣 E G30 b27 Δ0 at36
+          d36 = Typed.s-seq 𝓤 H A W 𝓣 E G30 G31 b13 b26 Δ0 (Typed.ask s29) at35 (Relend.t-sl-aggregate 𝓤 H A W E (Signed.SInt Syntax.w64) 𝓣 (Relend.asMut (Signed.SInt Syntax.w64)) G30 27 28 12 ty16
               ty16 (λ x. x) (Scalar.oFld 6 (List._∷_ (Syntax.field 1) List.[]) (Syntax.tyInt Syntax.w64) 8 λ v. Shared.lenV (v .0)) (Reads.as-is 𝓤 H A (Relend.msptr (Signed.SInt Syntax.w64) ty16 12))
               (Reads.room-gone 𝓤 H A ty7) (Relend.reads-owed-len 𝓤 H A W (Signed.SInt Syntax.w64) ty10 5 12 (Row.lease (κs .1 .1 .1 .1 .1 .0) (qs .1 .1 .1 .1 .1 .0)) 8 Path'.refl, Path'.refl)
-              Path'.refl Path'.refl λ b o k. tt) d34
+              Path'.refl Path'.refl λ b o k. tt) d35
 
-          d36 : Typed.Typed 𝓤 H A 𝓣 E G29 b28 Δ0 at36
-          d36 = Typed.s-seq 𝓤 H A W 𝓣 E G29 G30 b12 b27 Δ0 (Typed.give s28) at35 (Relend.t-sl-relend 𝓤 H A W E (Signed.SInt Syntax.w64) 𝓣 G29 6 26 5 12 ty10 ty16 (Row.lease (κs .1 .1 .1 .1 .1 .0) (qs
-              .1 .1 .1 .1 .1 .0)) 0 (λ x. x) (Reads.as-is 𝓤 H A (Mut.mslice (Signed.SInt Syntax.w64) ty10 5)) (Reads.room-gone 𝓤 H A ty16) Path'.refl tt Path'.refl Path'.refl Path'.refl λ b o. tt) d35
+          d37 : Typed.Typed 𝓤 H A 𝓣 E G29 b28 Δ0 at37
+          d37 = Typed.s-seq 𝓤 H A W 𝓣 E G29 G30 b12 b27 Δ0 (Typed.give s28) at36 (Relend.t-sl-relend 𝓤 H A W E (Signed.SInt Syntax.w64) 𝓣 G29 6 27 5 12 ty10 ty16 (Row.lease (κs .1 .1 .1 .1 .1 .0) (qs
+              .1 .1 .1 .1 .1 .0)) 0 (λ x. x) (Reads.as-is 𝓤 H A (Mut.mslice (Signed.SInt Syntax.w64) ty10 5)) (Reads.room-gone 𝓤 H A ty16) Path'.refl tt Path'.refl Path'.refl Path'.refl λ b o. tt) d36
 
-          d37 : Typed.Typed 𝓤 H A 𝓣 E G28 b28 Δ0 at37
-          d37 = Typed.g-pre 𝓤 H A W 𝓣 E G28 G29 b28 Δ0 (λ Ψ. Ψ) at36 (Lifetime.g-begin 𝓤 H A W E G28 12 (
+          d38 : Typed.Typed 𝓤 H A 𝓣 E G28 b28 Δ0 at38
+          d38 = Typed.g-pre 𝓤 H A W 𝓣 E G28 G29 b28 Δ0 (λ Ψ. Ψ) at37 (Lifetime.g-begin 𝓤 H A W E G28 12 (
             tt,
             (
               tt,
@@ -2346,7 +2359,7 @@ module _ (claims· : Claims) where
                                     tt,
                                     (
                                       tt,
-                                      (tt, (tt, (tt, (tt, (tt, (tt, (tt, (tt, (tt, (tt, (tt, (tt, (tt, (tt, (tt, (tt, (tt, tt))))))))))))))))),
+                                      (tt, (tt, (tt, (tt, (tt, (tt, (tt, (tt, (tt, (tt, (tt, (tt, (tt, (tt, (tt, (tt, (tt, (tt, tt)))))))))))))))))),
                                     ),
                                   ),
                                 ),
@@ -2360,24 +2373,24 @@ module _ (claims· : Claims) where
                 ),
               ),
             ),
-          )) d36
+          )) d37
 
-          d38 : Typed.Typed 𝓤 H A 𝓣 E G27 b29 Δ0 at38
-          d38 = Typed.s-seq 𝓤 H A W 𝓣 E G27 G28 b11 b28 Δ0 (Typed.ask s26) at37 (Relend.t-sl-aggregate 𝓤 H A W E (Referent.rtF (Referent.fInt Syntax.w64)) 𝓣 (Relend.asMut (Referent.rtF (Referent.fInt
-              Syntax.w64))) G27 24 25 11 ty16 ty16 (λ x. x) (Scalar.oFld 5 (List._∷_ (Syntax.field 1) List.[]) (Syntax.tyInt Syntax.w64) 8 λ v. Shared.lenV (v .0)) (Reads.as-is 𝓤 H A (Relend.msptr
+          d39 : Typed.Typed 𝓤 H A 𝓣 E G27 b29 Δ0 at39
+          d39 = Typed.s-seq 𝓤 H A W 𝓣 E G27 G28 b11 b28 Δ0 (Typed.ask s26) at38 (Relend.t-sl-aggregate 𝓤 H A W E (Referent.rtF (Referent.fInt Syntax.w64)) 𝓣 (Relend.asMut (Referent.rtF (Referent.fInt
+              Syntax.w64))) G27 25 26 11 ty16 ty16 (λ x. x) (Scalar.oFld 5 (List._∷_ (Syntax.field 1) List.[]) (Syntax.tyInt Syntax.w64) 8 λ v. Shared.lenV (v .0)) (Reads.as-is 𝓤 H A (Relend.msptr
               (Referent.rtF (Referent.fInt Syntax.w64)) ty16 11)) (Reads.room-gone 𝓤 H A ty7) (
                 Relend.reads-owed-len 𝓤 H A W (Referent.rtF (Referent.fInt Syntax.w64)) ty11 4 11 (Row.lease (κs .1 .1
                     .1 .1 .0) (qs .1 .1 .1 .1 .0)) 8 Path'.refl,
                 Path'.refl,
-              ) Path'.refl Path'.refl λ b o k. tt) d37
+              ) Path'.refl Path'.refl λ b o k. tt) d38
 
-          d39 : Typed.Typed 𝓤 H A 𝓣 E G26 b30 Δ0 at39
-          d39 = Typed.s-seq 𝓤 H A W 𝓣 E G26 G27 b10 b29 Δ0 (Typed.give s25) at38 (Relend.t-sl-relend 𝓤 H A W E (Referent.rtF (Referent.fInt Syntax.w64)) 𝓣 G26 5 24 4 11 ty11 ty16 (Row.lease (κs .1 .1
+          d40 : Typed.Typed 𝓤 H A 𝓣 E G26 b30 Δ0 at40
+          d40 = Typed.s-seq 𝓤 H A W 𝓣 E G26 G27 b10 b29 Δ0 (Typed.give s25) at39 (Relend.t-sl-relend 𝓤 H A W E (Referent.rtF (Referent.fInt Syntax.w64)) 𝓣 G26 5 25 4 11 ty11 ty16 (Row.lease (κs .1 .1
               .1 .1 .0) (qs .1 .1 .1 .1 .0)) 0 (λ x. x) (Reads.as-is 𝓤 H A (Mut.mslice (Referent.rtF (Referent.fInt Syntax.w64)) ty11 4)) (Reads.room-gone 𝓤 H A ty16) Path'.refl tt Path'.refl
-              Path'.refl Path'.refl λ b o. tt) d38
+              Path'.refl Path'.refl λ b o. tt) d39
 
-          d40 : Typed.Typed 𝓤 H A 𝓣 E G25 b30 Δ0 at40
-          d40 = Typed.g-pre 𝓤 H A W 𝓣 E G25 G26 b30 Δ0 (λ Ψ. Ψ) at39 (Lifetime.g-begin 𝓤 H A W E G25 11 (
+          d41 : Typed.Typed 𝓤 H A 𝓣 E G25 b30 Δ0 at41
+          d41 = Typed.g-pre 𝓤 H A W 𝓣 E G25 G26 b30 Δ0 (λ Ψ. Ψ) at40 (Lifetime.g-begin 𝓤 H A W E G25 11 (
             tt,
             (
               tt,
@@ -2407,7 +2420,7 @@ module _ (claims· : Claims) where
                                       tt,
                                       (
                                         tt,
-                                        (tt, (tt, (tt, (tt, (tt, (tt, (tt, (tt, (tt, (tt, (tt, (tt, (tt, (tt, (tt, (tt, tt)))))))))))))))),
+                                        (tt, (tt, (tt, (tt, (tt, (tt, (tt, (tt, (tt, (tt, (tt, (tt, (tt, (tt, (tt, (tt, (tt, tt))))))))))))))))),
                                       ),
                                     ),
                                   ),
@@ -2422,24 +2435,24 @@ module _ (claims· : Claims) where
                 ),
               ),
             ),
-          )) d39
+          )) d40
 
-          d41 : Typed.Typed 𝓤 H A 𝓣 E G24 b31 Δ0 at41
-          d41 = Typed.s-seq 𝓤 H A W 𝓣 E G24 G25 b9 b30 Δ0 (Typed.ask s23) at40 (Relend.t-sl-aggregate 𝓤 H A W E (Referent.rtF (Referent.fInt Syntax.w64)) 𝓣 (Relend.asMut (Referent.rtF (Referent.fInt
-              Syntax.w64))) G24 22 23 10 ty16 ty16 (λ x. x) (Scalar.oFld 4 (List._∷_ (Syntax.field 1) List.[]) (Syntax.tyInt Syntax.w64) 8 λ v. Shared.lenV (v .0)) (Reads.as-is 𝓤 H A (Relend.msptr
+          d42 : Typed.Typed 𝓤 H A 𝓣 E G24 b31 Δ0 at42
+          d42 = Typed.s-seq 𝓤 H A W 𝓣 E G24 G25 b9 b30 Δ0 (Typed.ask s23) at41 (Relend.t-sl-aggregate 𝓤 H A W E (Referent.rtF (Referent.fInt Syntax.w64)) 𝓣 (Relend.asMut (Referent.rtF (Referent.fInt
+              Syntax.w64))) G24 23 24 10 ty16 ty16 (λ x. x) (Scalar.oFld 4 (List._∷_ (Syntax.field 1) List.[]) (Syntax.tyInt Syntax.w64) 8 λ v. Shared.lenV (v .0)) (Reads.as-is 𝓤 H A (Relend.msptr
               (Referent.rtF (Referent.fInt Syntax.w64)) ty16 10)) (Reads.room-gone 𝓤 H A ty7) (
                 Relend.reads-owed-len 𝓤 H A W (Referent.rtF (Referent.fInt Syntax.w64)) ty12 3 10 (Row.lease (κs .1 .1
                     .1 .0) (qs .1 .1 .1 .0)) 8 Path'.refl,
                 Path'.refl,
-              ) Path'.refl Path'.refl λ b o k. tt) d40
+              ) Path'.refl Path'.refl λ b o k. tt) d41
 
-          d42 : Typed.Typed 𝓤 H A 𝓣 E G23 b32 Δ0 at42
-          d42 = Typed.s-seq 𝓤 H A W 𝓣 E G23 G24 b8 b31 Δ0 (Typed.give s22) at41 (Relend.t-sl-relend 𝓤 H A W E (Referent.rtF (Referent.fInt Syntax.w64)) 𝓣 G23 4 22 3 10 ty12 ty16 (Row.lease (κs .1 .1
+          d43 : Typed.Typed 𝓤 H A 𝓣 E G23 b32 Δ0 at43
+          d43 = Typed.s-seq 𝓤 H A W 𝓣 E G23 G24 b8 b31 Δ0 (Typed.give s22) at42 (Relend.t-sl-relend 𝓤 H A W E (Referent.rtF (Referent.fInt Syntax.w64)) 𝓣 G23 4 23 3 10 ty12 ty16 (Row.lease (κs .1 .1
               .1 .0) (qs .1 .1 .1 .0)) 0 (λ x. x) (Reads.as-is 𝓤 H A (Mut.mslice (Referent.rtF (Referent.fInt Syntax.w64)) ty12 3)) (Reads.room-gone 𝓤 H A ty16) Path'.refl tt Path'.refl Path'.refl
-              Path'.refl λ b o. tt) d41
+              Path'.refl λ b o. tt) d42
 
-          d43 : Typed.Typed 𝓤 H A 𝓣 E G22 b32 Δ0 at43
-          d43 = Typed.g-pre 𝓤 H A W 𝓣 E G22 G23 b32 Δ0 (λ Ψ. Ψ) at42 (Lifetime.g-begin 𝓤 H A W E G22 10 (
+          d44 : Typed.Typed 𝓤 H A 𝓣 E G22 b32 Δ0 at44
+          d44 = Typed.g-pre 𝓤 H A W 𝓣 E G22 G23 b32 Δ0 (λ Ψ. Ψ) at43 (Lifetime.g-begin 𝓤 H A W E G22 10 (
             tt,
             (
               tt,
@@ -2471,7 +2484,7 @@ module _ (claims· : Claims) where
                                         tt,
                                         (
                                           tt,
-                                          (tt, (tt, (tt, (tt, (tt, (tt, (tt, (tt, (tt, (tt, (tt, (tt, (tt, (tt, (tt, tt))))))))))))))),
+                                          (tt, (tt, (tt, (tt, (tt, (tt, (tt, (tt, (tt, (tt, (tt, (tt, (tt, (tt, (tt, (tt, tt)))))))))))))))),
                                         ),
                                       ),
                                     ),
@@ -2487,20 +2500,20 @@ module _ (claims· : Claims) where
                 ),
               ),
             ),
-          )) d42
+          )) d43
 
-          d44 : Typed.Typed 𝓤 H A 𝓣 E G21 b33 Δ0 at44
-          d44 = Typed.s-seq 𝓤 H A W 𝓣 E G21 G22 b7 b32 Δ0 (Typed.ask s20) at43 (Relend.t-sl-aggregate 𝓤 H A W E (Signed.SInt Syntax.w64) 𝓣 (Relend.asMut (Signed.SInt Syntax.w64)) G21 20 21 9 ty16
+          d45 : Typed.Typed 𝓤 H A 𝓣 E G21 b33 Δ0 at45
+          d45 = Typed.s-seq 𝓤 H A W 𝓣 E G21 G22 b7 b32 Δ0 (Typed.ask s20) at44 (Relend.t-sl-aggregate 𝓤 H A W E (Signed.SInt Syntax.w64) 𝓣 (Relend.asMut (Signed.SInt Syntax.w64)) G21 21 22 9 ty16
               ty16 (λ x. x) (Scalar.oFld 3 (List._∷_ (Syntax.field 1) List.[]) (Syntax.tyInt Syntax.w64) 8 λ v. Shared.lenV (v .0)) (Reads.as-is 𝓤 H A (Relend.msptr (Signed.SInt Syntax.w64) ty16 9))
               (Reads.room-gone 𝓤 H A ty7) (Relend.reads-owed-len 𝓤 H A W (Signed.SInt Syntax.w64) ty13 2 9 (Row.lease (κs .1 .1 .0) (qs .1 .1 .0)) 8 Path'.refl, Path'.refl) Path'.refl Path'.refl λ b
-              o k. tt) d43
+              o k. tt) d44
 
-          d45 : Typed.Typed 𝓤 H A 𝓣 E G20 b34 Δ0 at45
-          d45 = Typed.s-seq 𝓤 H A W 𝓣 E G20 G21 b6 b33 Δ0 (Typed.give s19) at44 (Relend.t-sl-relend 𝓤 H A W E (Signed.SInt Syntax.w64) 𝓣 G20 3 20 2 9 ty13 ty16 (Row.lease (κs .1 .1 .0) (qs .1 .1 .0))
-              0 (λ x. x) (Reads.as-is 𝓤 H A (Mut.mslice (Signed.SInt Syntax.w64) ty13 2)) (Reads.room-gone 𝓤 H A ty16) Path'.refl tt Path'.refl Path'.refl Path'.refl λ b o. tt) d44
+          d46 : Typed.Typed 𝓤 H A 𝓣 E G20 b34 Δ0 at46
+          d46 = Typed.s-seq 𝓤 H A W 𝓣 E G20 G21 b6 b33 Δ0 (Typed.give s19) at45 (Relend.t-sl-relend 𝓤 H A W E (Signed.SInt Syntax.w64) 𝓣 G20 3 21 2 9 ty13 ty16 (Row.lease (κs .1 .1 .0) (qs .1 .1 .0))
+              0 (λ x. x) (Reads.as-is 𝓤 H A (Mut.mslice (Signed.SInt Syntax.w64) ty13 2)) (Reads.room-gone 𝓤 H A ty16) Path'.refl tt Path'.refl Path'.refl Path'.refl λ b o. tt) d45
 
-          d46 : Typed.Typed 𝓤 H A 𝓣 E G19 b34 Δ0 at46
-          d46 = Typed.g-pre 𝓤 H A W 𝓣 E G19 G20 b34 Δ0 (λ Ψ. Ψ) at45 (Lifetime.g-begin 𝓤 H A W E G19 9 (
+          d47 : Typed.Typed 𝓤 H A 𝓣 E G19 b34 Δ0 at47
+          d47 = Typed.g-pre 𝓤 H A W 𝓣 E G19 G20 b34 Δ0 (λ Ψ. Ψ) at46 (Lifetime.g-begin 𝓤 H A W E G19 9 (
             tt,
             (
               tt,
@@ -2536,7 +2549,7 @@ module _ (claims· : Claims) where
                                             tt,
                                             (
                                               tt,
-                                              (tt, (tt, (tt, (tt, (tt, (tt, (tt, (tt, (tt, (tt, (tt, (tt, (tt, tt))))))))))))),
+                                              (tt, (tt, (tt, (tt, (tt, (tt, (tt, (tt, (tt, (tt, (tt, (tt, (tt, (tt, tt)))))))))))))),
                                             ),
                                           ),
                                         ),
@@ -2554,24 +2567,24 @@ module _ (claims· : Claims) where
                 ),
               ),
             ),
-          )) d45
+          )) d46
 
-          d47 : Typed.Typed 𝓤 H A 𝓣 E G18 b35 Δ0 at47
-          d47 = Typed.s-seq 𝓤 H A W 𝓣 E G18 G19 b5 b34 Δ0 (Typed.ask s17) at46 (Relend.t-sl-aggregate 𝓤 H A W E (Referent.rtF (Referent.fInt Syntax.w64)) 𝓣 (Relend.asMut (Referent.rtF (Referent.fInt
-              Syntax.w64))) G18 18 19 8 ty16 ty16 (λ x. x) (Scalar.oFld 2 (List._∷_ (Syntax.field 1) List.[]) (Syntax.tyInt Syntax.w64) 8 λ v. Shared.lenV (v .0)) (Reads.as-is 𝓤 H A (Relend.msptr
+          d48 : Typed.Typed 𝓤 H A 𝓣 E G18 b35 Δ0 at48
+          d48 = Typed.s-seq 𝓤 H A W 𝓣 E G18 G19 b5 b34 Δ0 (Typed.ask s17) at47 (Relend.t-sl-aggregate 𝓤 H A W E (Referent.rtF (Referent.fInt Syntax.w64)) 𝓣 (Relend.asMut (Referent.rtF (Referent.fInt
+              Syntax.w64))) G18 19 20 8 ty16 ty16 (λ x. x) (Scalar.oFld 2 (List._∷_ (Syntax.field 1) List.[]) (Syntax.tyInt Syntax.w64) 8 λ v. Shared.lenV (v .0)) (Reads.as-is 𝓤 H A (Relend.msptr
               (Referent.rtF (Referent.fInt Syntax.w64)) ty16 8)) (Reads.room-gone 𝓤 H A ty7) (
                 Relend.reads-owed-len 𝓤 H A W (Referent.rtF (Referent.fInt Syntax.w64)) ty14 1 8 (Row.lease (κs .1 .0)
                     (qs .1 .0)) 8 Path'.refl,
                 Path'.refl,
-              ) Path'.refl Path'.refl λ b o k. tt) d46
+              ) Path'.refl Path'.refl λ b o k. tt) d47
 
-          d48 : Typed.Typed 𝓤 H A 𝓣 E G17 b36 Δ0 at48
-          d48 = Typed.s-seq 𝓤 H A W 𝓣 E G17 G18 b4 b35 Δ0 (Typed.give s16) at47 (Relend.t-sl-relend 𝓤 H A W E (Referent.rtF (Referent.fInt Syntax.w64)) 𝓣 G17 2 18 1 8 ty14 ty16 (Row.lease (κs .1 .0)
+          d49 : Typed.Typed 𝓤 H A 𝓣 E G17 b36 Δ0 at49
+          d49 = Typed.s-seq 𝓤 H A W 𝓣 E G17 G18 b4 b35 Δ0 (Typed.give s16) at48 (Relend.t-sl-relend 𝓤 H A W E (Referent.rtF (Referent.fInt Syntax.w64)) 𝓣 G17 2 19 1 8 ty14 ty16 (Row.lease (κs .1 .0)
               (qs .1 .0)) 0 (λ x. x) (Reads.as-is 𝓤 H A (Mut.mslice (Referent.rtF (Referent.fInt Syntax.w64)) ty14 1)) (Reads.room-gone 𝓤 H A ty16) Path'.refl tt Path'.refl Path'.refl Path'.refl λ b
-              o. tt) d47
+              o. tt) d48
 
-          d49 : Typed.Typed 𝓤 H A 𝓣 E G16 b36 Δ0 at49
-          d49 = Typed.g-pre 𝓤 H A W 𝓣 E G16 G17 b36 Δ0 (λ Ψ. Ψ) at48 (Lifetime.g-begin 𝓤 H A W E G16 8 (
+          d50 : Typed.Typed 𝓤 H A 𝓣 E G16 b36 Δ0 at50
+          d50 = Typed.g-pre 𝓤 H A W 𝓣 E G16 G17 b36 Δ0 (λ Ψ. Ψ) at49 (Lifetime.g-begin 𝓤 H A W E G16 8 (
             tt,
             (
               tt,
@@ -2609,7 +2622,7 @@ module _ (claims· : Claims) where
                                               tt,
                                               (
                                                 tt,
-                                                (tt, (tt, (tt, (tt, (tt, (tt, (tt, (tt, (tt, (tt, (tt, (tt, tt)))))))))))),
+                                                (tt, (tt, (tt, (tt, (tt, (tt, (tt, (tt, (tt, (tt, (tt, (tt, (tt, tt))))))))))))),
                                               ),
                                             ),
                                           ),
@@ -2628,30 +2641,30 @@ module _ (claims· : Claims) where
                 ),
               ),
             ),
-          )) d48
+          )) d49
 
-          d50 : Typed.Typed 𝓤 H A 𝓣 E G15 b36 Δ0 at50
-          d50 = Typed.g-pre 𝓤 H A W 𝓣 E G15 G16 b36 Δ0 (Typed.pass T15 T16 s14) at49 (Scalar.g-room 𝓤 H A W E G15 12 ty4 (Local.room-whole 𝓤 H A W (Declared.row Outlets.the-type) ty4 Path'.refl)) d49
+          d51 : Typed.Typed 𝓤 H A 𝓣 E G15 b36 Δ0 at51
+          d51 = Typed.g-pre 𝓤 H A W 𝓣 E G15 G16 b36 Δ0 (Typed.pass T15 T16 s14) at50 (Scalar.g-room 𝓤 H A W E G15 13 ty4 (Local.room-whole 𝓤 H A W (Declared.row Outlets.the-type) ty4 Path'.refl)) d50
 
-          d51 : Typed.Typed 𝓤 H A 𝓣 E G14 b36 Δ0 at51
-          d51 = Typed.g-pre 𝓤 H A W 𝓣 E G14 G15 b36 Δ0 (Typed.pass T14 T15 s13) at50 (Scalar.g-room 𝓤 H A W E G14 10 ty3 (Local.room-whole 𝓤 H A W (Declared.row Ledger.the-type) ty3 Path'.refl)) d50
+          d52 : Typed.Typed 𝓤 H A 𝓣 E G14 b36 Δ0 at52
+          d52 = Typed.g-pre 𝓤 H A W 𝓣 E G14 G15 b36 Δ0 (Typed.pass T14 T15 s13) at51 (Scalar.g-room 𝓤 H A W E G14 10 ty3 (Local.room-whole 𝓤 H A W (Declared.row Ledger.the-type) ty3 Path'.refl)) d51
 
-          d52 : Typed.Typed 𝓤 H A 𝓣 E G13 b36 Δ0 at52
-          d52 = Typed.g-pre 𝓤 H A W 𝓣 E G13 G14 b36 Δ0 (Typed.pass T13 T14 s12) at51 (Scalar.g-room 𝓤 H A W E G13 9 ty5 (Local.room-whole 𝓤 H A W (Declared.row Boundaries.the-type) ty5 Path'.refl))
-              d51
+          d53 : Typed.Typed 𝓤 H A 𝓣 E G13 b36 Δ0 at53
+          d53 = Typed.g-pre 𝓤 H A W 𝓣 E G13 G14 b36 Δ0 (Typed.pass T13 T14 s12) at52 (Scalar.g-room 𝓤 H A W E G13 9 ty5 (Local.room-whole 𝓤 H A W (Declared.row Boundaries.the-type) ty5 Path'.refl))
+              d52
 
-          d53 : Typed.Typed 𝓤 H A 𝓣 E G12 b37 Δ0 at53
-          d53 = Typed.s-seq 𝓤 H A W 𝓣 E G12 G13 b3 b36 Δ0 (Typed.both s11) at52 (Plain.t-call-plain 𝓤 H A W 𝓣 0 ps·1 r·1 (claims· .2) (claims· .3) "jemmyfern_c::answer::given_held" (known .1) E
+          d54 : Typed.Typed 𝓤 H A 𝓣 E G12 b37 Δ0 at54
+          d54 = Typed.s-seq 𝓤 H A W 𝓣 E G12 G13 b3 b36 Δ0 (Typed.both s11) at53 (Plain.t-call-plain 𝓤 H A W 𝓣 0 ps·1 r·1 (claims· .2) (claims· .3) "jemmyfern_c::answer::given_held" (known .1) E
               (λ pos β. β) G12 (
                 record { pos = 9; st = List.[]; d = 0; at = λ x. x },
                 (
                   record { pos = 10; st = List.[]; d = 0; at = λ x. x },
                   (
-                    record { pos = 12; st = List.[]; d = 0; at = λ x. x },
+                    record { pos = 13; st = List.[]; d = 0; at = λ x. x },
                     tt,
                   ),
                 ),
-              ) 13 List.[] (Call.sub-id 𝓤 H A W (G12 .slots)) (
+              ) 14 List.[] (Call.sub-id 𝓤 H A W (G12 .slots)) (
                 (
                   Yields.yields-copy 𝓤 H A W (λ ρ. Unit) (Declared.row Boundaries.the-type) Path'.refl (Copies.cStruct Boundaries.the-type
                       Laws.the-laws Laws.the-copy .copy 𝓤 H A W) (Rows'.whole (Declared.row Boundaries.the-type)) (λ x. x) (λ x. x) (λ ρ told. Local.mem-whole 𝓤 H A W (Declared.row Boundaries.the-type) ρ)
@@ -2675,31 +2688,31 @@ module _ (claims· : Claims) where
                     tt,
                   ),
                 ),
-              ) (Reads.room-gone 𝓤 H A ty1) tt Path'.refl) d52
+              ) (Reads.room-gone 𝓤 H A ty1) tt Path'.refl) d53
 
-          d54 : Typed.Typed 𝓤 H A 𝓣 E G11 b37 Δ0 at54
-          d54 = Typed.g-pre 𝓤 H A W 𝓣 E G11 G12 b37 Δ0 (λ Ψ. Ψ) at53 (Lifetime.g-forget 𝓤 H A W E G11 7 Row.dead Path'.refl) d53
+          d55 : Typed.Typed 𝓤 H A 𝓣 E G11 b37 Δ0 at55
+          d55 = Typed.g-pre 𝓤 H A W 𝓣 E G11 G12 b37 Δ0 (λ Ψ. Ψ) at54 (Lifetime.g-forget 𝓤 H A W E G11 7 Row.dead Path'.refl) d54
 
-          d55 : Typed.Typed 𝓤 H A 𝓣 E G10 b37 Δ0 at55
-          d55 = Typed.g-pre 𝓤 H A W 𝓣 E G10 G11 b37 Δ0 (Typed.pass T9 T11 s9) at54 (Reshare.g-back-sl-shr 𝓤 H A W E Elem G10 7 6 7 ty17 (Row.lease (κs .1 .1 .1 .1 .1 .1 .0) (qs .1 .1 .1 .1 .1 .1 .0))
-              (λ x. x) (Reads.as-is 𝓤 H A (Reshare.mslice-owedS Elem ty17 6 7 (Row.lease (κs .1 .1 .1 .1 .1 .1 .0) (qs .1 .1 .1 .1 .1 .1 .0)))) Path'.refl Path'.refl) d54
+          d56 : Typed.Typed 𝓤 H A 𝓣 E G10 b37 Δ0 at56
+          d56 = Typed.g-pre 𝓤 H A W 𝓣 E G10 G11 b37 Δ0 (Typed.pass T9 T11 s9) at55 (Reshare.g-back-sl-shr 𝓤 H A W E Elem G10 7 6 7 ty17 (Row.lease (κs .1 .1 .1 .1 .1 .1 .0) (qs .1 .1 .1 .1 .1 .1 .0))
+              (λ x. x) (Reads.as-is 𝓤 H A (Reshare.mslice-owedS Elem ty17 6 7 (Row.lease (κs .1 .1 .1 .1 .1 .1 .0) (qs .1 .1 .1 .1 .1 .1 .0)))) Path'.refl Path'.refl) d55
 
-          d56 : Typed.Typed 𝓤 H A 𝓣 E G9 b37 Δ0 at56
-          d56 = Typed.g-pre 𝓤 H A W 𝓣 E G9 G10 b37 Δ0 (λ Ψ. Ψ) at55 (Lifetime.g-end 𝓤 H A W E G9 7 Path'.refl) d55
+          d57 : Typed.Typed 𝓤 H A 𝓣 E G9 b37 Δ0 at57
+          d57 = Typed.g-pre 𝓤 H A W 𝓣 E G9 G10 b37 Δ0 (λ Ψ. Ψ) at56 (Lifetime.g-end 𝓤 H A W E G9 7 Path'.refl) d56
 
-          d57 : Typed.Typed 𝓤 H A 𝓣 E G8 b37 Δ0 at57
-          d57 = Typed.g-pre 𝓤 H A W 𝓣 E G8 G9 b37 Δ0 (Typed.pass T8 T9 s7) at56 (Scalar.g-room 𝓤 H A W E G8 17 ty9 (Shared.room-sslice 𝓤 H A W Elem (Syntax.tyRef Syntax.erased Syntax.imm ElemName)
-              7)) d56
+          d58 : Typed.Typed 𝓤 H A 𝓣 E G8 b37 Δ0 at58
+          d58 = Typed.g-pre 𝓤 H A W 𝓣 E G8 G9 b37 Δ0 (Typed.pass T8 T9 s7) at57 (Scalar.g-room 𝓤 H A W E G8 18 ty9 (Shared.room-sslice 𝓤 H A W Elem (Syntax.tyRef Syntax.erased Syntax.imm ElemName)
+              7)) d57
 
-          d58 : Typed.Typed 𝓤 H A 𝓣 E G7 b38 Δ0 at58
-          d58 = Typed.s-seq 𝓤 H A W 𝓣 E G7 G8 b2 b37 Δ0 (Typed.both s6) at57 (Plain.t-call-plain 𝓤 H A W 𝓣 1 ps·0 r·0 (claims· .0) (claims· .1) "outlet::load" (known .0) E (λ pos β. β) G7 (
+          d59 : Typed.Typed 𝓤 H A 𝓣 E G7 b38 Δ0 at59
+          d59 = Typed.s-seq 𝓤 H A W 𝓣 E G7 G8 b2 b37 Δ0 (Typed.both s6) at58 (Plain.t-call-plain 𝓤 H A W 𝓣 1 ps·0 r·0 (claims· .0) (claims· .1) "outlet::load" (known .0) E (λ pos β. β) G7 (
             record {
-              pos = 17;
+              pos = 18;
               ty = Syntax.tyRef Syntax.erased Syntax.imm ElemName;
               ref = λ x. x;
             },
             tt,
-          ) 12 (List._∷_ 7 List.[]) (Call.sub-id 𝓤 H A W (G7 .slots)) (
+          ) 13 (List._∷_ 7 List.[]) (Call.sub-id 𝓤 H A W (G7 .slots)) (
             ShrSlice.spares-sslice 𝓤 H A W Elem
                 (Syntax.tyRef Syntax.erased Syntax.imm ElemName) 7,
             Shared.reads-sslice 𝓤 H A W Elem (Syntax.tyRef Syntax.erased Syntax.imm ElemName) 7,
@@ -2708,24 +2721,24 @@ module _ (claims· : Claims) where
           ) (Reads.room-gone 𝓤 H A ty4) (
             tt,
             tt,
-          ) Path'.refl) d57
+          ) Path'.refl) d58
 
-          d59 : Typed.Typed 𝓤 H A 𝓣 E G6 b39 Δ0 at59
-          d59 = Typed.s-seq 𝓤 H A W 𝓣 E G6 G7 b1 b38 Δ0 (Typed.ask s5) at58 (Relend.t-sl-aggregate 𝓤 H A W E Elem 𝓣 (Relend.asShr Elem) G6 16 17 7 (Syntax.tyRef Syntax.erased Syntax.imm ElemName)
+          d60 : Typed.Typed 𝓤 H A 𝓣 E G6 b39 Δ0 at60
+          d60 = Typed.s-seq 𝓤 H A W 𝓣 E G6 G7 b1 b38 Δ0 (Typed.ask s5) at59 (Relend.t-sl-aggregate 𝓤 H A W E Elem 𝓣 (Relend.asShr Elem) G6 17 18 7 (Syntax.tyRef Syntax.erased Syntax.imm ElemName)
               (Syntax.tyRef Syntax.erased Syntax.imm ElemName) (λ x. x) (Scalar.oFld 7 (List._∷_ (Syntax.field 1) List.[]) (Syntax.tyInt Syntax.w64) 8 λ v. Shared.lenV (v .0)) (Reads.as-is 𝓤 H A
               (Relend.ssptr Elem (Syntax.tyRef Syntax.erased Syntax.imm ElemName) 7)) (Reads.room-gone 𝓤 H A ty9) (
                 Reshare.reads-owedS-len 𝓤 H A W Elem ty17 6 7 (Row.lease (κs .1 .1 .1 .1 .1 .1 .0)
                     (qs .1 .1 .1 .1 .1 .1 .0)) 8 Path'.refl,
                 Path'.refl,
-              ) Path'.refl Path'.refl λ b o k. tt) d58
+              ) Path'.refl Path'.refl λ b o k. tt) d59
 
-          d60 : Typed.Typed 𝓤 H A 𝓣 E G5 b40 Δ0 at60
-          d60 = Typed.s-seq 𝓤 H A W 𝓣 E G5 G6 b0 b39 Δ0 (Typed.give s4) at59 (Reshare.t-sl-reshare 𝓤 H A W E Elem 𝓣 G5 7 16 6 7 ty17 (Syntax.tyRef Syntax.erased Syntax.imm ElemName) (Row.lease (κs .1
+          d61 : Typed.Typed 𝓤 H A 𝓣 E G5 b40 Δ0 at61
+          d61 = Typed.s-seq 𝓤 H A W 𝓣 E G5 G6 b0 b39 Δ0 (Typed.give s4) at60 (Reshare.t-sl-reshare 𝓤 H A W E Elem 𝓣 G5 7 17 6 7 ty17 (Syntax.tyRef Syntax.erased Syntax.imm ElemName) (Row.lease (κs .1
               .1 .1 .1 .1 .1 .0) (qs .1 .1 .1 .1 .1 .1 .0)) 0 (λ x. x) (Reads.as-is 𝓤 H A (Mut.mslice Elem ty17 6)) (Reads.room-gone 𝓤 H A (Syntax.tyRef Syntax.erased Syntax.imm ElemName)) Path'.refl
-              tt Path'.refl Path'.refl Path'.refl λ b o. tt) d59
+              tt Path'.refl Path'.refl Path'.refl λ b o. tt) d60
 
-          d61 : Typed.Typed 𝓤 H A 𝓣 E G4 b40 Δ0 at61
-          d61 = Typed.g-pre 𝓤 H A W 𝓣 E G4 G5 b40 Δ0 (λ Ψ. Ψ) at60 (Lifetime.g-begin 𝓤 H A W E G4 7 (
+          d62 : Typed.Typed 𝓤 H A 𝓣 E G4 b40 Δ0 at62
+          d62 = Typed.g-pre 𝓤 H A W 𝓣 E G4 G5 b40 Δ0 (λ Ψ. Ψ) at61 (Lifetime.g-begin 𝓤 H A W E G4 7 (
             tt,
             (
               tt,
@@ -2765,7 +2778,7 @@ module _ (claims· : Claims) where
                                                 tt,
                                                 (
                                                   tt,
-                                                  (tt, (tt, (tt, (tt, (tt, (tt, (tt, (tt, (tt, (tt, (tt, tt))))))))))),
+                                                  (tt, (tt, (tt, (tt, (tt, (tt, (tt, (tt, (tt, (tt, (tt, (tt, tt)))))))))))),
                                                 ),
                                               ),
                                             ),
@@ -2785,24 +2798,24 @@ module _ (claims· : Claims) where
                 ),
               ),
             ),
-          )) d60
+          )) d61
 
-          d62 : Typed.Typed 𝓤 H A 𝓣 E G3 b40 Δ0 at62
-          d62 = Typed.g-pre 𝓤 H A W 𝓣 E G3 G4 b40 Δ0 (Typed.give s2) at61 (Know.g-sl-known 𝓤 H A W (Referent.fInt Syntax.w64) E G3 5 4 ty11 (Row.lease (κs .1 .1 .1 .1 .0) (qs .1 .1 .1 .1 .0)) 0 (λ x.
-              x) record { fits = Dec'.lit< tt } (Reads.as-is 𝓤 H A (Mut.mslice (Referent.rtF (Referent.fInt Syntax.w64)) ty11 4)) Path'.refl tt) d61
+          d63 : Typed.Typed 𝓤 H A 𝓣 E G3 b40 Δ0 at63
+          d63 = Typed.g-pre 𝓤 H A W 𝓣 E G3 G4 b40 Δ0 (Typed.give s2) at62 (Know.g-sl-known 𝓤 H A W (Referent.fInt Syntax.w64) E G3 5 4 ty11 (Row.lease (κs .1 .1 .1 .1 .0) (qs .1 .1 .1 .1 .0)) 0 (λ x.
+              x) record { fits = Dec'.lit< tt } (Reads.as-is 𝓤 H A (Mut.mslice (Referent.rtF (Referent.fInt Syntax.w64)) ty11 4)) Path'.refl tt) d62
 
-          d63 : Typed.Typed 𝓤 H A 𝓣 E G2 b40 Δ0 at63
-          d63 = Typed.g-pre 𝓤 H A W 𝓣 E G2 G3 b40 Δ0 (Typed.give s1) at62 (Know.g-sl-known 𝓤 H A W (Referent.fInt Syntax.w64) E G2 4 3 ty12 (Row.lease (κs .1 .1 .1 .0) (qs .1 .1 .1 .0)) 0 (λ x. x)
-              record { fits = Dec'.lit< tt } (Reads.as-is 𝓤 H A (Mut.mslice (Referent.rtF (Referent.fInt Syntax.w64)) ty12 3)) Path'.refl tt) d62
+          d64 : Typed.Typed 𝓤 H A 𝓣 E G2 b40 Δ0 at64
+          d64 = Typed.g-pre 𝓤 H A W 𝓣 E G2 G3 b40 Δ0 (Typed.give s1) at63 (Know.g-sl-known 𝓤 H A W (Referent.fInt Syntax.w64) E G2 4 3 ty12 (Row.lease (κs .1 .1 .1 .0) (qs .1 .1 .1 .0)) 0 (λ x. x)
+              record { fits = Dec'.lit< tt } (Reads.as-is 𝓤 H A (Mut.mslice (Referent.rtF (Referent.fInt Syntax.w64)) ty12 3)) Path'.refl tt) d63
 
-          d64 : Typed.Typed 𝓤 H A 𝓣 E G0 b40 Δ0 at64
-          d64 = Typed.g-pre 𝓤 H A W 𝓣 E G0 G2 b40 Δ0 (Typed.give s0) at63 (Know.g-sl-known 𝓤 H A W (Referent.fInt Syntax.w64) E G0 2 1 ty14 (Row.lease (κs .1 .0) (qs .1 .0)) 0 (λ x. x) record {
+          d65 : Typed.Typed 𝓤 H A 𝓣 E G0 b40 Δ0 at65
+          d65 = Typed.g-pre 𝓤 H A W 𝓣 E G0 G2 b40 Δ0 (Typed.give s0) at64 (Know.g-sl-known 𝓤 H A W (Referent.fInt Syntax.w64) E G0 2 1 ty14 (Row.lease (κs .1 .0) (qs .1 .0)) 0 (λ x. x) record {
             fits
                 = Dec'.lit< tt;
-          } (Reads.as-is 𝓤 H A (Mut.mslice (Referent.rtF (Referent.fInt Syntax.w64)) ty14 1)) Path'.refl tt) d63
+          } (Reads.as-is 𝓤 H A (Mut.mslice (Referent.rtF (Referent.fInt Syntax.w64)) ty14 1)) Path'.refl tt) d64
 
           pub typed : Typed.Typed 𝓤 H A 𝓣 E (Function.Γin 7 ps r xs m κs qs) b40 (Function.Δret 7 ps r xs m κs qs) Φ
-          typed = d64
+          typed = d65
 
       module _ (κs : Lifetimes.Lfts 7) where
         pub record Args : Type 0 where
@@ -2853,14 +2866,16 @@ module _ (claims· : Claims) where
                 of-mem = Local.whole-mem 𝓤 H A W (Declared.row Ledger.the-type);
               })
           pub t : Kinds.Den {n = 7} κs (Num.pNum Syntax.w64)
+          pub f : Kinds.Den {n = 7} κs (Num.pNum Syntax.w64)
 
         abbrev pub dens : (a : Args) → Kinds.Dens κs ps
-        dens = λ a. (a .bed, (a .depth, (a .discharge, (a .mass, (a .base, (a .carried, (a .outlets, (a .x, (a .boundaries, (a .ledger, (a .t, tt)))))))))))
+        dens = λ a. (a .bed, (a .depth, (a .discharge, (a .mass, (a .base, (a .carried, (a .outlets, (a .x, (a .boundaries, (a .ledger, (a .t, (a .f, tt))))))))))))
 
         module _ (args· : Args) where
           pub record Ranges : Type 0 where
             pub x : Val.Fits Syntax.w64 (args· .x)
             pub t : Val.Fits Syntax.w64 (args· .t)
+            pub f : Val.Fits Syntax.w64 (args· .f)
 
       abbrev pub m0 : (κs : Lifetimes.Lfts 7) → (args : Args κs) → Typed.Mo T0
       m0 = λ κs args. (tt, Enter.partsP κs 1 ps xs (dens κs args))
@@ -2935,7 +2950,7 @@ module _ (claims· : Claims) where
 
       module _ (before· : After-load-arg) where
         abbrev pub After-load·own : Type 0
-        After-load·own = Called.Called ps·0 r·0 (claims· .1) T7 (record { pos = 17; ty = Syntax.tyRef Syntax.erased Syntax.imm ElemName; ref = λ x. x }, tt) (m5 (before· .before) (before· .load-arg
+        After-load·own = Called.Called ps·0 r·0 (claims· .1) T7 (record { pos = 18; ty = Syntax.tyRef Syntax.erased Syntax.imm ElemName; ref = λ x. x }, tt) (m5 (before· .before) (before· .load-arg
             .given))
 
       pub record After-load : Type 0 where
@@ -2943,7 +2958,7 @@ module _ (claims· : Claims) where
         pub load : After-load·own before
 
       abbrev pub After-load·gave : (c : After-load) → s6 .gives (m5 (c .before .before) (c .before .load-arg .given))
-      After-load·gave = λ c. Called.given ps·0 r·0 (claims· .1) T7 (record { pos = 17; ty = Syntax.tyRef Syntax.erased Syntax.imm ElemName; ref = λ x. x }, tt) (m5 (c .before .before) (c .before
+      After-load·gave = λ c. Called.given ps·0 r·0 (claims· .1) T7 (record { pos = 18; ty = Syntax.tyRef Syntax.erased Syntax.imm ElemName; ref = λ x. x }, tt) (m5 (c .before .before) (c .before
           .load-arg .given)) (c .load)
 
       abbrev pub m7 : (before : After-load-arg) → (given : s6 .gives (m5 (before .before) (before .load-arg .given))) → Typed.Mo T9
@@ -2967,7 +2982,7 @@ module _ (claims· : Claims) where
             (
               record {
                 pos =
-                    12;
+                    13;
                 st = List.[];
                 d = 0;
                 at = λ x. x;
@@ -2989,7 +3004,7 @@ module _ (claims· : Claims) where
           (
             record {
               pos
-                  = 12;
+                  = 13;
               st = List.[];
               d = 0;
               at = λ x. x;
@@ -3090,39 +3105,39 @@ module _ (claims· : Claims) where
           record { pos = 1; ty = Syntax.tyRef (Syntax.named 0) Syntax.imm (Syntax.tyInt Syntax.w64); ref = λ x. x },
           (
             record {
-              pos = 19;
+              pos = 20;
               ty =
                   Syntax.tyRef Syntax.erased Syntax.mut (Syntax.tyInt Syntax.w64);
               ref = λ x. x;
             },
             (
               record {
-                pos = 21;
+                pos = 22;
                 ty = Syntax.tyRef Syntax.erased Syntax.mut (Syntax.tyInt Syntax.w64);
                 ref = λ x. x;
               },
               (
-                record { pos = 23; ty = Syntax.tyRef Syntax.erased Syntax.mut (Syntax.tyInt Syntax.w64); ref = λ x. x },
+                record { pos = 24; ty = Syntax.tyRef Syntax.erased Syntax.mut (Syntax.tyInt Syntax.w64); ref = λ x. x },
                 (
                   record {
-                    pos = 25;
+                    pos = 26;
                     ty = Syntax.tyRef Syntax.erased Syntax.mut (Syntax.tyInt
                         Syntax.w64);
                     ref = λ x. x;
                   },
                   (
-                    record { pos = 27; ty = Syntax.tyRef Syntax.erased Syntax.mut (Syntax.tyInt Syntax.w64); ref = λ x. x },
+                    record { pos = 28; ty = Syntax.tyRef Syntax.erased Syntax.mut (Syntax.tyInt Syntax.w64); ref = λ x. x },
                     (
                       Num.vAt 8 λ x. x,
                       (
                         record {
-                          pos = 13;
+                          pos = 14;
                           st =
                               List.[];
                           d = 0;
                           at = λ x. x;
                         },
-                        (Num.vAt 11 λ x. x, tt),
+                        (Num.vAt 11 λ x. x, (Num.vAt 12 λ x. x, tt)),
                       ),
                     ),
                   ),
@@ -3141,38 +3156,38 @@ module _ (claims· : Claims) where
         record { pos = 1; ty = Syntax.tyRef (Syntax.named 0) Syntax.imm (Syntax.tyInt Syntax.w64); ref = λ x. x },
         (
           record {
-            pos = 19;
+            pos = 20;
             ty
                 = Syntax.tyRef Syntax.erased Syntax.mut (Syntax.tyInt Syntax.w64);
             ref = λ x. x;
           },
           (
             record {
-              pos = 21;
+              pos = 22;
               ty = Syntax.tyRef Syntax.erased Syntax.mut (Syntax.tyInt Syntax.w64);
               ref = λ x. x;
             },
             (
-              record { pos = 23; ty = Syntax.tyRef Syntax.erased Syntax.mut (Syntax.tyInt Syntax.w64); ref = λ x. x },
+              record { pos = 24; ty = Syntax.tyRef Syntax.erased Syntax.mut (Syntax.tyInt Syntax.w64); ref = λ x. x },
               (
                 record {
-                  pos = 25;
+                  pos = 26;
                   ty = Syntax.tyRef Syntax.erased Syntax.mut (Syntax.tyInt
                       Syntax.w64);
                   ref = λ x. x;
                 },
                 (
-                  record { pos = 27; ty = Syntax.tyRef Syntax.erased Syntax.mut (Syntax.tyInt Syntax.w64); ref = λ x. x },
+                  record { pos = 28; ty = Syntax.tyRef Syntax.erased Syntax.mut (Syntax.tyInt Syntax.w64); ref = λ x. x },
                   (
                     Num.vAt 8 λ x. x,
                     (
                       record {
-                        pos = 13;
+                        pos = 14;
                         st = List.[];
                         d = 0;
                         at = λ x. x;
                       },
-                      (Num.vAt 11 λ x. x, tt),
+                      (Num.vAt 11 λ x. x, (Num.vAt 12 λ x. x, tt)),
                     ),
                   ),
                 ),
@@ -3281,7 +3296,7 @@ module _ (claims· : Claims) where
 
       module _ (before· : After-carried) where
         abbrev pub After-room-of·own : Type 0
-        After-room-of·own = Called.Called ps·3 r·3 (claims· .7) T50 (record { pos = 14; st = List._∷_ (Syntax.field 1) List.[]; d = 8; at = λ x. StepAnswer.struct .as-values x .1 .0 }, tt) (m32
+        After-room-of·own = Called.Called ps·3 r·3 (claims· .7) T50 (record { pos = 15; st = List._∷_ (Syntax.field 1) List.[]; d = 8; at = λ x. StepAnswer.struct .as-values x .1 .0 }, tt) (m32
             (before· .before) (before· .carried .given))
 
       pub record After-room-of : Type 0 where
@@ -3289,7 +3304,7 @@ module _ (claims· : Claims) where
         pub room-of : After-room-of·own before
 
       abbrev pub After-room-of·gave : (c : After-room-of) → s50 .gives (m32 (c .before .before) (c .before .carried .given))
-      After-room-of·gave = λ c. Called.given ps·3 r·3 (claims· .7) T50 (record { pos = 14; st = List._∷_ (Syntax.field 1) List.[]; d = 8; at = λ x. StepAnswer.struct .as-values x .1 .0 }, tt) (m32
+      After-room-of·gave = λ c. Called.given ps·3 r·3 (claims· .7) T50 (record { pos = 15; st = List._∷_ (Syntax.field 1) List.[]; d = 8; at = λ x. StepAnswer.struct .as-values x .1 .0 }, tt) (m32
           (c .before .before) (c .before .carried .given)) (c .room-of)
 
       abbrev pub m34 : (before : After-room-of) → (given : s52 .gives (m33 (before .before) (After-room-of·gave before))) → Typed.Mo T54
@@ -3315,10 +3330,10 @@ module _ (claims· : Claims) where
       module _ (before· : After-store-arg) where
         abbrev pub After-store·own : Type 0
         After-store·own = Called.Called ps·4 r·4 (claims· .9) T55 (
-          record { pos = 30; ty = Syntax.tyRef Syntax.erased Syntax.mut ElemName; ref = λ x. x },
+          record { pos = 31; ty = Syntax.tyRef Syntax.erased Syntax.mut ElemName; ref = λ x. x },
           (
             record {
-              pos = 15;
+              pos = 16;
               st = List.[];
               d = 0;
               at
@@ -3334,10 +3349,10 @@ module _ (claims· : Claims) where
 
       abbrev pub After-store·gave : (c : After-store) → s54 .gives (m35 (c .before .before) (c .before .store-arg .given))
       After-store·gave = λ c. Called.given ps·4 r·4 (claims· .9) T55 (
-        record { pos = 30; ty = Syntax.tyRef Syntax.erased Syntax.mut ElemName; ref = λ x. x },
+        record { pos = 31; ty = Syntax.tyRef Syntax.erased Syntax.mut ElemName; ref = λ x. x },
         (
           record {
-            pos = 15;
+            pos = 16;
             st = List.[];
             d = 0;
             at = λ x. x;
@@ -3371,14 +3386,14 @@ module _ (claims· : Claims) where
 
       module _ (before· : After-outlets) where
         abbrev pub After-step-answer·own : Type 0
-        After-step-answer·own = Called.Called ps·5 r·5 (claims· .11) T60 (record { pos = 14; st = List.[]; d = 0; at = λ x. x }, tt) (m39 (before· .before) (before· .outlets .given))
+        After-step-answer·own = Called.Called ps·5 r·5 (claims· .11) T60 (record { pos = 15; st = List.[]; d = 0; at = λ x. x }, tt) (m39 (before· .before) (before· .outlets .given))
 
       pub record After-step-answer : Type 0 where
         pub before : After-outlets
         pub step-answer : After-step-answer·own before
 
       abbrev pub After-step-answer·gave : (c : After-step-answer) → s60 .gives (m39 (c .before .before) (c .before .outlets .given))
-      After-step-answer·gave = λ c. Called.given ps·5 r·5 (claims· .11) T60 (record { pos = 14; st = List.[]; d = 0; at = λ x. x }, tt) (m39 (c .before .before) (c .before .outlets .given)) (c
+      After-step-answer·gave = λ c. Called.given ps·5 r·5 (claims· .11) T60 (record { pos = 15; st = List.[]; d = 0; at = λ x. x }, tt) (m39 (c .before .before) (c .before .outlets .given)) (c
           .step-answer)
 
       abbrev pub m41 : (before : After-outlets) → (given : s60 .gives (m39 (before .before) (before .outlets .given))) → Typed.Mo T63
@@ -3390,37 +3405,40 @@ module _ (claims· : Claims) where
       abbrev pub m43 : (before : After-outlets) → (given : s60 .gives (m39 (before .before) (before .outlets .given))) → Typed.Mo T65
       m43 = λ before given. s63 (m42 before given)
 
+      abbrev pub m44 : (before : After-outlets) → (given : s60 .gives (m39 (before .before) (before .outlets .given))) → Typed.Mo T66
+      m44 = λ before given. s64 (m43 before given)
+
       abbrev pub Need-same-length : Type 0
-      Need-same-length = (c : After-step-answer) → MutSlice.SameLen (Row.get 2 (T65 .locals) (m43 (c .before) (After-step-answer·gave c))) (dens (c .before .before .before .before .before .before
+      Need-same-length = (c : After-step-answer) → MutSlice.SameLen (Row.get 2 (T66 .locals) (m44 (c .before) (After-step-answer·gave c))) (dens (c .before .before .before .before .before .before
           .before .before .before .before .before .before .before .before .before .before .before .before .before .before .before .before .before .before .before .κs) (c .before .before .before
           .before .before .before .before .before .before .before .before .before .before .before .before .before .before .before .before .before .before .before .before .before .before .args) .1 .0)
 
       abbrev pub Need-same-length-2 : Type 0
-      Need-same-length-2 = (c : After-step-answer) → MutSlice.SameLen (Row.get 3 (T65 .locals) (m43 (c .before) (After-step-answer·gave c))) (dens (c .before .before .before .before .before .before
+      Need-same-length-2 = (c : After-step-answer) → MutSlice.SameLen (Row.get 3 (T66 .locals) (m44 (c .before) (After-step-answer·gave c))) (dens (c .before .before .before .before .before .before
           .before .before .before .before .before .before .before .before .before .before .before .before .before .before .before .before .before .before .before .κs) (c .before .before .before
           .before .before .before .before .before .before .before .before .before .before .before .before .before .before .before .before .before .before .before .before .before .before .args) .1 .1
           .0)
 
       abbrev pub Need-same-length-3 : Type 0
-      Need-same-length-3 = (c : After-step-answer) → MutSlice.SameLen (Row.get 4 (T65 .locals) (m43 (c .before) (After-step-answer·gave c))) (dens (c .before .before .before .before .before .before
+      Need-same-length-3 = (c : After-step-answer) → MutSlice.SameLen (Row.get 4 (T66 .locals) (m44 (c .before) (After-step-answer·gave c))) (dens (c .before .before .before .before .before .before
           .before .before .before .before .before .before .before .before .before .before .before .before .before .before .before .before .before .before .before .κs) (c .before .before .before
           .before .before .before .before .before .before .before .before .before .before .before .before .before .before .before .before .before .before .before .before .before .before .args) .1 .1
           .1 .0)
 
       abbrev pub Need-same-length-4 : Type 0
-      Need-same-length-4 = (c : After-step-answer) → MutSlice.SameLen (Row.get 5 (T65 .locals) (m43 (c .before) (After-step-answer·gave c))) (dens (c .before .before .before .before .before .before
+      Need-same-length-4 = (c : After-step-answer) → MutSlice.SameLen (Row.get 5 (T66 .locals) (m44 (c .before) (After-step-answer·gave c))) (dens (c .before .before .before .before .before .before
           .before .before .before .before .before .before .before .before .before .before .before .before .before .before .before .before .before .before .before .κs) (c .before .before .before
           .before .before .before .before .before .before .before .before .before .before .before .before .before .before .before .before .before .before .before .before .before .before .args) .1 .1
           .1 .1 .0)
 
       abbrev pub Need-same-length-5 : Type 0
-      Need-same-length-5 = (c : After-step-answer) → MutSlice.SameLen (Row.get 6 (T65 .locals) (m43 (c .before) (After-step-answer·gave c))) (dens (c .before .before .before .before .before .before
+      Need-same-length-5 = (c : After-step-answer) → MutSlice.SameLen (Row.get 6 (T66 .locals) (m44 (c .before) (After-step-answer·gave c))) (dens (c .before .before .before .before .before .before
           .before .before .before .before .before .before .before .before .before .before .before .before .before .before .before .before .before .before .before .κs) (c .before .before .before
           .before .before .before .before .before .before .before .before .before .before .before .before .before .before .before .before .before .before .before .before .before .before .args) .1 .1
           .1 .1 .1 .0)
 
       abbrev pub Need-same-length-6 : Type 0
-      Need-same-length-6 = (c : After-step-answer) → MutSlice.SameLen (Row.get 7 (T65 .locals) (m43 (c .before) (After-step-answer·gave c))) (dens (c .before .before .before .before .before .before
+      Need-same-length-6 = (c : After-step-answer) → MutSlice.SameLen (Row.get 7 (T66 .locals) (m44 (c .before) (After-step-answer·gave c))) (dens (c .before .before .before .before .before .before
           .before .before .before .before .before .before .before .before .before .before .before .before .before .before .before .before .before .before .before .κs) (c .before .before .before
           .before .before .before .before .before .before .before .before .before .before .before .before .before .before .before .before .before .before .before .before .before .before .args) .1 .1
           .1 .1 .1 .1 .0)
@@ -3430,7 +3448,7 @@ module _ (claims· : Claims) where
           .before .before .before .before .before .before .before .κs) (dens (c .before .before .before .before .before .before .before .before .before .before .before .before .before .before .before
           .before .before .before .before .before .before .before .before .before .before .κs) (c .before .before .before .before .before .before .before .before .before .before .before .before
           .before .before .before .before .before .before .before .before .before .before .before .before .before .args)) (Function.resV r (c .before .before .before .before .before .before .before
-          .before .before .before .before .before .before .before .before .before .before .before .before .before .before .before .before .before .before .κs) (m43 (c .before) (After-step-answer·gave
+          .before .before .before .before .before .before .before .before .before .before .before .before .before .before .before .before .before .before .κs) (m44 (c .before) (After-step-answer·gave
           c) .0)) (Clauses.atExit (Kinds.endedOf 7 ps r) (c .before .before .before .before .before .before .before .before .before .before .before .before .before .before .before .before .before
           .before .before .before .before .before .before .before .before .κs) (dens (c .before .before .before .before .before .before .before .before .before .before .before .before .before .before
           .before .before .before .before .before .before .before .before .before .before .before .κs) (c .before .before .before .before .before .before .before .before .before .before .before
@@ -3438,20 +3456,20 @@ module _ (claims· : Claims) where
           .before .before .before .before .before .before .before .before .before .before .before .before .before .before .before .before .before .before .before .κs) 1 ps xs (dens (c .before .before
           .before .before .before .before .before .before .before .before .before .before .before .before .before .before .before .before .before .before .before .before .before .before .before .κs)
           (c .before .before .before .before .before .before .before .before .before .before .before .before .before .before .before .before .before .before .before .before .before .before .before
-          .before .before .args)) (m43 (c .before) (After-step-answer·gave c) .1)))
+          .before .before .args)) (m44 (c .before) (After-step-answer·gave c) .1)))
 
       module _ (load-requires : Need-load-requires) (given-held-requires : Need-given-held-requires) (step-requires : Need-step-requires) (room-of-requires : Need-room-of-requires) (store-requires :
           Need-store-requires) (step-answer-requires : Need-step-answer-requires) (same-length : Need-same-length) (same-length-2 : Need-same-length-2) (same-length-3 : Need-same-length-3)
           (same-length-4 : Need-same-length-4) (same-length-5 : Need-same-length-5) (same-length-6 : Need-same-length-6) (returns : Need-returns) where
-        lay6 : (c : After-step-answer) → at3 (W0 (c .before .before .before .before .before .before .before .before .before .before .before .before .before .before .before .before .before .before
+        lay6 : (c : After-step-answer) → at4 (W0 (c .before .before .before .before .before .before .before .before .before .before .before .before .before .before .before .before .before .before
             .before .before .before .before .before .before .before .κs) (c .before .before .before .before .before .before .before .before .before .before .before .before .before .before .before
             .before .before .before .before .before .before .before .before .before .before .args)) (m40 (c .before) (After-step-answer·gave c))
         lay6 = λ c. (
           (
             Path'.refl,
             (
-              MutSlice.fix-len (Row.get 2 (T65 .locals) (m43 (c .before) (After-step-answer·gave c)) .ptr) (Row.get 2 (T65 .locals) (m43 (c .before) (After-step-answer·gave c))
-                  .name) (Row.get 2 (T65 .locals) (m43 (c .before) (After-step-answer·gave c)) .now) (dens (c .before .before .before .before .before .before .before .before .before .before .before .before
+              MutSlice.fix-len (Row.get 2 (T66 .locals) (m44 (c .before) (After-step-answer·gave c)) .ptr) (Row.get 2 (T66 .locals) (m44 (c .before) (After-step-answer·gave c))
+                  .name) (Row.get 2 (T66 .locals) (m44 (c .before) (After-step-answer·gave c)) .now) (dens (c .before .before .before .before .before .before .before .before .before .before .before .before
                   .before .before .before .before .before .before .before .before .before .before .before .before .before .κs) (c .before .before .before .before .before .before .before .before .before
                   .before .before .before .before .before .before .before .before .before .before .before .before .before .before .before .before .args) .1 .0 .now) (same-length record {
                     before = c
@@ -3459,32 +3477,32 @@ module _ (claims· : Claims) where
                     step-answer = c .step-answer;
                   }),
               (
-                MutSlice.fix-len (Row.get 3 (T65 .locals) (m43 (c .before) (After-step-answer·gave c)) .ptr) (Row.get 3 (T65 .locals) (m43 (c .before)
-                    (After-step-answer·gave c)) .name) (Row.get 3 (T65 .locals) (m43 (c .before) (After-step-answer·gave c)) .now) (dens (c .before .before .before .before .before .before .before .before
+                MutSlice.fix-len (Row.get 3 (T66 .locals) (m44 (c .before) (After-step-answer·gave c)) .ptr) (Row.get 3 (T66 .locals) (m44 (c .before)
+                    (After-step-answer·gave c)) .name) (Row.get 3 (T66 .locals) (m44 (c .before) (After-step-answer·gave c)) .now) (dens (c .before .before .before .before .before .before .before .before
                     .before .before .before .before .before .before .before .before .before .before .before .before .before .before .before .before .before .κs) (c .before .before .before .before .before
                     .before .before .before .before .before .before .before .before .before .before .before .before .before .before .before .before .before .before .before .before .args) .1 .1 .0 .now)
                     (same-length-2 record { before = c .before; step-answer = c .step-answer }),
                 (
-                  MutSlice.fix-len (Row.get 4 (T65 .locals) (m43 (c .before) (After-step-answer·gave c)) .ptr) (Row.get 4 (T65
-                      .locals) (m43 (c .before) (After-step-answer·gave c)) .name) (Row.get 4 (T65 .locals) (m43 (c .before) (After-step-answer·gave c)) .now) (dens (c .before .before .before .before .before
+                  MutSlice.fix-len (Row.get 4 (T66 .locals) (m44 (c .before) (After-step-answer·gave c)) .ptr) (Row.get 4 (T66
+                      .locals) (m44 (c .before) (After-step-answer·gave c)) .name) (Row.get 4 (T66 .locals) (m44 (c .before) (After-step-answer·gave c)) .now) (dens (c .before .before .before .before .before
                       .before .before .before .before .before .before .before .before .before .before .before .before .before .before .before .before .before .before .before .before .κs) (c .before .before
                       .before .before .before .before .before .before .before .before .before .before .before .before .before .before .before .before .before .before .before .before .before .before .before
                       .args) .1 .1 .1 .0 .now) (same-length-3 record { before = c .before; step-answer = c .step-answer }),
                   (
-                    MutSlice.fix-len (Row.get 5 (T65 .locals) (m43 (c .before) (After-step-answer·gave
-                        c)) .ptr) (Row.get 5 (T65 .locals) (m43 (c .before) (After-step-answer·gave c)) .name) (Row.get 5 (T65 .locals) (m43 (c .before) (After-step-answer·gave c)) .now) (dens (c .before .before
+                    MutSlice.fix-len (Row.get 5 (T66 .locals) (m44 (c .before) (After-step-answer·gave
+                        c)) .ptr) (Row.get 5 (T66 .locals) (m44 (c .before) (After-step-answer·gave c)) .name) (Row.get 5 (T66 .locals) (m44 (c .before) (After-step-answer·gave c)) .now) (dens (c .before .before
                         .before .before .before .before .before .before .before .before .before .before .before .before .before .before .before .before .before .before .before .before .before .before .before
                         .κs) (c .before .before .before .before .before .before .before .before .before .before .before .before .before .before .before .before .before .before .before .before .before .before
                         .before .before .before .args) .1 .1 .1 .1 .0 .now) (same-length-4 record { before = c .before; step-answer = c .step-answer }),
                     (
-                      MutSlice.fix-len (Row.get 6 (T65 .locals) (m43 (c
-                          .before) (After-step-answer·gave c)) .ptr) (Row.get 6 (T65 .locals) (m43 (c .before) (After-step-answer·gave c)) .name) (Row.get 6 (T65 .locals) (m43 (c .before) (After-step-answer·gave
+                      MutSlice.fix-len (Row.get 6 (T66 .locals) (m44 (c
+                          .before) (After-step-answer·gave c)) .ptr) (Row.get 6 (T66 .locals) (m44 (c .before) (After-step-answer·gave c)) .name) (Row.get 6 (T66 .locals) (m44 (c .before) (After-step-answer·gave
                           c)) .now) (dens (c .before .before .before .before .before .before .before .before .before .before .before .before .before .before .before .before .before .before .before .before .before
                           .before .before .before .before .κs) (c .before .before .before .before .before .before .before .before .before .before .before .before .before .before .before .before .before .before
                           .before .before .before .before .before .before .before .args) .1 .1 .1 .1 .1 .0 .now) (same-length-5 record { before = c .before; step-answer = c .step-answer }),
                       (
                         MutSlice.fix-len
-                            (Row.get 7 (T65 .locals) (m43 (c .before) (After-step-answer·gave c)) .ptr) (Row.get 7 (T65 .locals) (m43 (c .before) (After-step-answer·gave c)) .name) (Row.get 7 (T65 .locals) (m43 (c
+                            (Row.get 7 (T66 .locals) (m44 (c .before) (After-step-answer·gave c)) .ptr) (Row.get 7 (T66 .locals) (m44 (c .before) (After-step-answer·gave c)) .name) (Row.get 7 (T66 .locals) (m44 (c
                             .before) (After-step-answer·gave c)) .now) (dens (c .before .before .before .before .before .before .before .before .before .before .before .before .before .before .before .before .before
                             .before .before .before .before .before .before .before .before .κs) (c .before .before .before .before .before .before .before .before .before .before .before .before .before .before
                             .before .before .before .before .before .before .before .before .before .before .before .args) .1 .1 .1 .1 .1 .1 .0 .now) (same-length-6 record {
@@ -3492,7 +3510,7 @@ module _ (claims· : Claims) where
                               step-answer = c
                                   .step-answer;
                             }),
-                        (tt, (tt, (tt, (tt, tt)))),
+                        (tt, (tt, (tt, (tt, (tt, tt))))),
                       ),
                     ),
                   ),
@@ -3503,7 +3521,7 @@ module _ (claims· : Claims) where
           returns record { before = c .before; step-answer = c .step-answer },
         )
 
-        lay5 : (c : After-store) → at9 (W0 (c .before .before .before .before .before .before .before .before .before .before .before .before .before .before .before .before .before .before .before
+        lay5 : (c : After-store) → at10 (W0 (c .before .before .before .before .before .before .before .before .before .before .before .before .before .before .before .before .before .before .before
             .before .before .before .before .κs) (c .before .before .before .before .before .before .before .before .before .before .before .before .before .before .before .before .before .before
             .before .before .before .before .before .args)) (m36 (c .before) (After-store·gave c))
         lay5 = λ c. (
@@ -3517,7 +3535,7 @@ module _ (claims· : Claims) where
               };
               step-answer = Called.called ps·5 r·5 (claims· .11) T60 (
                 record {
-                  pos = 14;
+                  pos = 15;
                   st = List.[];
                   d =
                       0;
@@ -3529,7 +3547,7 @@ module _ (claims· : Claims) where
           ),
         )
 
-        lay4 : (c : After-room-of) → at13 (W0 (c .before .before .before .before .before .before .before .before .before .before .before .before .before .before .before .before .before .before
+        lay4 : (c : After-room-of) → at14 (W0 (c .before .before .before .before .before .before .before .before .before .before .before .before .before .before .before .before .before .before
             .before .before .before .κs) (c .before .before .before .before .before .before .before .before .before .before .before .before .before .before .before .before .before .before .before
             .before .before .args)) (m33 (c .before) (After-room-of·gave c))
         lay4 = λ c. λ g. (
@@ -3543,18 +3561,18 @@ module _ (claims· : Claims) where
               };
               store = Called.called ps·4 r·4 (claims· .9) T55 (
                 record {
-                  pos = 30;
+                  pos = 31;
                   ty = Syntax.tyRef
                       Syntax.erased Syntax.mut ElemName;
                   ref = λ x. x;
                 },
-                (record { pos = 15; st = List.[]; d = 0; at = λ x. x }, tt),
+                (record { pos = 16; st = List.[]; d = 0; at = λ x. x }, tt),
               ) (m35 record { before = c .before; room-of = c .room-of } g) g';
             },
           ),
         )
 
-        lay3 : (c : After-step) → at33 (W0 (c .before .before .before .before .before .before .before .before .before .before .before .before .κs) (c .before .before .before .before .before .before
+        lay3 : (c : After-step) → at34 (W0 (c .before .before .before .before .before .before .before .before .before .before .before .before .κs) (c .before .before .before .before .before .before
             .before .before .before .before .before .before .args)) (m23 (c .before) (After-step·gave c))
         lay3 = λ c. (
           Path'.refl,
@@ -3620,7 +3638,7 @@ module _ (claims· : Claims) where
                       };
                       room-of = Called.called ps·3 r·3 (claims· .7) T50 (
                         record {
-                          pos = 14;
+                          pos = 15;
                           st = List._∷_ (Syntax.field 1) List.[];
                           d = 8;
                           at = λ x.
@@ -3660,7 +3678,7 @@ module _ (claims· : Claims) where
           ),
         )
 
-        lay2 : (c : After-given-held) → at52 (W0 (c .before .before .before .before .before .before .κs) (c .before .before .before .before .before .before .args)) (m9 (c .before)
+        lay2 : (c : After-given-held) → at53 (W0 (c .before .before .before .before .before .before .κs) (c .before .before .before .before .before .before .args)) (m9 (c .before)
             (After-given-held·gave c))
         lay2 = λ c. λ g. (
           Path'.refl,
@@ -3714,30 +3732,30 @@ module _ (claims· : Claims) where
                           ref = λ x. x;
                         },
                         (
-                          record { pos = 19; ty = Syntax.tyRef Syntax.erased Syntax.mut (Syntax.tyInt Syntax.w64); ref = λ x. x },
+                          record { pos = 20; ty = Syntax.tyRef Syntax.erased Syntax.mut (Syntax.tyInt Syntax.w64); ref = λ x. x },
                           (
                             record {
-                              pos = 21;
+                              pos = 22;
                               ty
                                   = Syntax.tyRef Syntax.erased Syntax.mut (Syntax.tyInt Syntax.w64);
                               ref = λ x. x;
                             },
                             (
                               record {
-                                pos = 23;
+                                pos = 24;
                                 ty = Syntax.tyRef Syntax.erased Syntax.mut (Syntax.tyInt Syntax.w64);
                                 ref = λ x. x;
                               },
                               (
-                                record { pos = 25; ty = Syntax.tyRef Syntax.erased Syntax.mut (Syntax.tyInt Syntax.w64); ref = λ x. x },
+                                record { pos = 26; ty = Syntax.tyRef Syntax.erased Syntax.mut (Syntax.tyInt Syntax.w64); ref = λ x. x },
                                 (
                                   record {
-                                    pos = 27;
+                                    pos = 28;
                                     ty = Syntax.tyRef Syntax.erased Syntax.mut (Syntax.tyInt
                                         Syntax.w64);
                                     ref = λ x. x;
                                   },
-                                  (Num.vAt 8 λ x. x, (record { pos = 13; st = List.[]; d = 0; at = λ x. x }, (Num.vAt 11 λ x. x, tt))),
+                                  (Num.vAt 8 λ x. x, (record { pos = 14; st = List.[]; d = 0; at = λ x. x }, (Num.vAt 11 λ x. x, (Num.vAt 12 λ x. x, tt)))),
                                 ),
                               ),
                             ),
@@ -3745,14 +3763,8 @@ module _ (claims· : Claims) where
                         ),
                       ) (m22 record {
                         before = record {
-                          before = record {
-                            before = record { before = record { before = c .before; given-held = c .given-held }; step-arg = record { given = g } };
-                            step-arg2 = record { given = g' };
-                          };
-                          step-arg3 = record {
-                            given
-                                = g'';
-                          };
+                          before = record { before = record { before = record { before = c .before; given-held = c .given-held }; step-arg = record { given = g } }; step-arg2 = record { given = g' } };
+                          step-arg3 = record { given = g'' };
                         };
                         step-arg4 = record { given = g'3 };
                       } g'4) g'5;
@@ -3764,7 +3776,7 @@ module _ (claims· : Claims) where
           ),
         )
 
-        lay1 : (c : After-load) → at57 (W0 (c .before .before .before .before .before .κs) (c .before .before .before .before .before .args)) (m6 (c .before) (After-load·gave c))
+        lay1 : (c : After-load) → at58 (W0 (c .before .before .before .before .before .κs) (c .before .before .before .before .before .args)) (m6 (c .before) (After-load·gave c))
         lay1 = λ c. (
           given-held-requires record { before = c .before; load = c .load },
           λ g. lay2 record {
@@ -3775,7 +3787,7 @@ module _ (claims· : Claims) where
                   (
                     record { pos = 10; st = List.[]; d = 0; at = λ x. x },
                     (
-                      record { pos = 12; st = List.[]; d = 0; at = λ x. x },
+                      record { pos = 13; st = List.[]; d = 0; at = λ x. x },
                       tt,
                     ),
                   ),
@@ -3783,7 +3795,7 @@ module _ (claims· : Claims) where
           },
         )
 
-        pub laid : (c : Start) → at64 (W0 (c .κs) (c .args)) (m0 (c .κs) (c .args))
+        pub laid : (c : Start) → at65 (W0 (c .κs) (c .args)) (m0 (c .κs) (c .args))
         laid = λ c. λ g. λ g'. λ g''. λ g'3. (
           Path'.refl,
           (
@@ -3809,7 +3821,7 @@ module _ (claims· : Claims) where
                 };
                 load-arg = record { given = g'3 };
               };
-              load = Called.called ps·0 r·0 (claims· .1) T7 (record { pos = 17; ty = Syntax.tyRef Syntax.erased Syntax.imm ElemName; ref = λ x. x }, tt) (m5 record {
+              load = Called.called ps·0 r·0 (claims· .1) T7 (record { pos = 18; ty = Syntax.tyRef Syntax.erased Syntax.imm ElemName; ref = λ x. x }, tt) (m5 record {
                 before = record {
                   before =
                       record { before = c; slice-known = record { given = g } };
@@ -3840,9 +3852,17 @@ module _ (claims· : Claims) where
               ledger = a .1 .1 .1 .1 .1 .1 .1 .1 .1 .0;
               t = a .1 .1 .1 .1 .1 .1 .1
                   .1 .1 .1 .0;
+              f = a .1 .1 .1 .1 .1 .1 .1 .1 .1 .1 .1 .0;
             };
             good = good;
-            fits = record { x = record { fits = good .1 .1 .1 .1 .1 .1 .1 .0 .1 }; t = record { fits = good .1 .1 .1 .1 .1 .1 .1 .1 .1 .1 .0 .1 } };
+            fits = record {
+              x = record { fits = good .1 .1 .1 .1 .1 .1 .1 .0 .1 };
+              t = record {
+                fits = good .1 .1 .1 .1 .1 .1
+                    .1 .1 .1 .1 .0 .1;
+              };
+              f = record { fits = good .1 .1 .1 .1 .1 .1 .1 .1 .1 .1 .1 .0 .1 };
+            };
             pre = pre;
           }
 

@@ -41,6 +41,15 @@ mul-t c = search needs
 shared-slice-read-t : tie.Need-shared-slice-read-t
 shared-slice-read-t c = search needs
 
+add-f : tie.Need-add-f
+add-f c = search needs
+
+mul-f : tie.Need-mul-f
+mul-f c = search needs
+
+shared-slice-read-f : tie.Need-shared-slice-read-f
+shared-slice-read-f c = search needs
+
 step-requires : tie.Need-step-requires
 step-requires c κs = search needs
 
@@ -61,9 +70,11 @@ same-length-5 c = search needs
 
 returns : tie.Need-returns
 returns c sheets room out =
-    let s = c .before .before .before .before .before .before .before .before .before .before .before .before .before .before .before .before .before .before .before .before .before .before .before in
+    let called = c .before .before .before .before .before .before .before .before .before in
+    let read = called .before .before .before .before .before .before .before .before in
+    let s = read .before .before .before .before .before .before .before in
     let a = s .args in
-    rw (is-step (now (a .words)) sheets room (a .at) (c .before .before .before .before .before .before .before .before .before .before .before .before .before .before .before .before .if1 .taken)) (plays-step (given s) (freeAt (now (a .words)) (a .at)) _ (rw (c .before .before .before .before .before .before .before .before .before .before .before .before .before .before .before .before .before .before .with-wants .ensures) at (c .before .before .before .before .before .before .before .before .before .step .ensures)) out)
+    rw (is-step (now (a .words)) sheets room (a .at) (read .if1 .taken)) (plays-step (given s) (freeAt (now (a .words)) (a .at)) _ _ (rw (read .before .before .with-wants .ensures) at (called .step .ensures)) out)
 
 transport-requires : tie.Need-transport-requires
 transport-requires c κs = search needs
@@ -133,6 +144,9 @@ play-moving-spec =
     add-t
     mul-t
     shared-slice-read-t
+    add-f
+    mul-f
+    shared-slice-read-f
     step-requires
     same-length
     same-length-2

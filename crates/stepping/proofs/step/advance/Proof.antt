@@ -15,6 +15,7 @@ use Rattle.numbers.specs.Signed.{positive}
 use Rattle.numbers.proofs.IndexLaws.{zeros}
 use Rattle.flux.specs.Limits.{depthMost}
 use Rattle.flux.specs.Ranges.{Mesh}
+use Rattle.friction.proofs.FrictionLaws.{strickler-most}
 use Rattle.cfl.specs.Cfl.{meetsCfl}
 use Rattle.drawing.specs.Ranges.{Granted}
 use Rattle.reach.specs.Limits.{cellsMost}
@@ -41,7 +42,7 @@ whole : (s : tie.Start) → Sound (reach s)
 whole s = sound (reach s) (s .args .held .boundaries) (s .pre .0)
 
 fine : (s : tie.Start) → Mesh (s .args .t) (s .args .x)
-fine s = mesh (reach s) (whole s) (s .args .t) (s .pre .1 .0)
+fine s = mesh (reach s) (whole s) (s .args .t) (s .pre .1 .0 .0)
 
 -- ---- after the sweep
 
@@ -56,31 +57,31 @@ wanted : (c : tie.After-sweep) → wants c ≡ tabulate cellsMost (λ i. sum (wa
 wanted c = c .before .before .before .before .before .before .before .before .wants-by-cell .ensures
 
 abbrev net : tie.After-sweep → List ℤ
-net c = c .sweep .last .1 .1 .1 .1 .1 .1 .0
+net c = c .sweep .last .1 .1 .1 .1 .1 .1 .1 .0
 
 abbrev given : tie.After-sweep → List ℕ
-given c = c .sweep .last .1 .1 .1 .1 .1 .1 .1 .0
+given c = c .sweep .last .1 .1 .1 .1 .1 .1 .1 .1 .0
 
 abbrev depth : tie.After-sweep → List ℕ
-depth c = c .sweep .last .1 .1 .1 .1 .1 .1 .1 .1 .0
+depth c = c .sweep .last .1 .1 .1 .1 .1 .1 .1 .1 .1 .0
 
 abbrev discharge : tie.After-sweep → List ℤ
-discharge c = c .sweep .last .1 .1 .1 .1 .1 .1 .1 .1 .1 .0
+discharge c = c .sweep .last .1 .1 .1 .1 .1 .1 .1 .1 .1 .1 .0
 
-swept : (c : tie.After-sweep) → Swept (reach (entry c)) (entry c .args .t) (wants c) (net c) (given c) (depth c) (discharge c)
-swept c = swept-same (reach (entry c)) (entry c .args .t) (wants c) (net c) (given c) (depth c) (discharge c) (c .sweep .ensures .1 .0)
+swept : (c : tie.After-sweep) → Swept (reach (entry c)) (entry c .args .t) (entry c .args .f) (wants c) (net c) (given c) (depth c) (discharge c)
+swept c = swept-same (reach (entry c)) (entry c .args .t) (entry c .args .f) (wants c) (net c) (given c) (depth c) (discharge c) (c .sweep .ensures .1 .0)
 
 net-length : (c : tie.After-sweep) → length (net c) ≡ 513
-net-length c = c .sweep .kept .1 .1 .1 .1 .1 .1 .0
+net-length c = c .sweep .kept .1 .1 .1 .1 .1 .1 .1 .0
 
 given-length : (c : tie.After-sweep) → length (given c) ≡ 512
-given-length c = c .sweep .kept .1 .1 .1 .1 .1 .1 .1 .0 ∙ c .before .before .before .before .before .before .before .before .wants-by-cell .kept .1 .0
+given-length c = c .sweep .kept .1 .1 .1 .1 .1 .1 .1 .1 .0 ∙ c .before .before .before .before .before .before .before .before .wants-by-cell .kept .1 .0
 
 depth-length : (c : tie.After-sweep) → length (depth c) ≡ 512
-depth-length c = c .sweep .kept .1 .1 .1 .1 .1 .1 .1 .1 .0
+depth-length c = c .sweep .kept .1 .1 .1 .1 .1 .1 .1 .1 .1 .0
 
 discharge-length : (c : tie.After-sweep) → length (discharge c) ≡ 512
-discharge-length c = c .sweep .kept .1 .1 .1 .1 .1 .1 .1 .1 .1 .0
+discharge-length c = c .sweep .kept .1 .1 .1 .1 .1 .1 .1 .1 .1 .1 .0
 
 depths-found : (c : tie.After-sweep) → (i : ℕ) → i < cells (reach (entry c)) → getD (depth c) i 0 ≡ positive (newDepth (reach (entry c)) (entry c .args .t) i)
 depths-found c = depth-of (reach (entry c)) (whole (entry c)) (entry c .args .t) (wants c) (wanted c) (net c) (given c) (depth c) (discharge c) (swept c)
@@ -117,7 +118,7 @@ sweep-requires c κs =
     let s = c .before .before .before .before .before .before .before .before .before .before .before .before .before .before in
     let k = whole s in
     let n = k .few in
-    ((fine s, water-fits (reach s) k), (omega (arith, n), (omega (arith, n, wanted-long (reach s) k (s .args .t) _ (c .before .before .before .before .before .before .before .wants-by-cell .ensures)), (omega (arith, n), omega (arith, n)))))
+    ((fine s, water-fits (reach s) k), ((omega (arith, n), (omega (arith, n, wanted-long (reach s) k (s .args .t) _ (c .before .before .before .before .before .before .before .wants-by-cell .ensures)), (omega (arith, n), omega (arith, n)))), strickler-most (s .args .f) (s .pre .1 .0 .1)))
 
 enum-told : tie.Need-enum-told
 enum-told c = search needs
@@ -139,9 +140,9 @@ returns c =
     let w = c .before .before .before .before .before .before .before in
     let s = entry w in
     let a = s .args in
-    subst (λ (r : StepAnswer). StepCameTo (reach s) (a .t) r (now (a .depth)) (now (a .discharge)) (now (a .mass)) (now (a .base)) (now (a .carried))) (sym (c .stopped .ensures))
-    (stayed (reach s) (a .t) 11 (omega arith)
-    (stopped-11 (reach s) (a .t) (s .pre .0) (s .pre .1 .0) (met-same s (refused-by 11 _ _ _ (w .sweep .ensures .0) (c .before .enum-told2 .given .1)))))
+    subst (λ (r : StepAnswer). StepCameTo (reach s) (a .t) (a .f) r (now (a .depth)) (now (a .discharge)) (now (a .mass)) (now (a .base)) (now (a .carried))) (sym (c .stopped .ensures))
+    (stayed (reach s) (a .t) (a .f) 11 (omega arith)
+    (stopped-11 (reach s) (a .t) (a .f) (s .pre .0) (s .pre .1 .0 .0) (s .pre .1 .0 .1) (met-same s (refused-by 11 _ _ _ (w .sweep .ensures .0) (c .before .enum-told2 .given .1)))))
 
 -- ground 11 stood
 abbrev swung : tie.After-enum-told → tie.After-sweep
@@ -182,8 +183,8 @@ returns-2 c =
     let s = entry w in
     let a = s .args in
     let f = sym (tested w) ∙ refused-by 12 _ _ _ (c .before .before .before .check-depths .ensures) (c .before .enum-told4 .given .1) in
-    subst (λ (r : StepAnswer). StepCameTo (reach s) (a .t) r (now (a .depth)) (now (a .discharge)) (now (a .mass)) (now (a .base)) (now (a .carried))) (sym (c .stopped2 .ensures))
-    (stayed (reach s) (a .t) 12 (omega arith) (stopped-12 (reach s) (a .t) (s .pre .0) (s .pre .1 .0) (cfl m) f))
+    subst (λ (r : StepAnswer). StepCameTo (reach s) (a .t) (a .f) r (now (a .depth)) (now (a .discharge)) (now (a .mass)) (now (a .base)) (now (a .carried))) (sym (c .stopped2 .ensures))
+    (stayed (reach s) (a .t) (a .f) 12 (omega arith) (stopped-12 (reach s) (a .t) (a .f) (s .pre .0) (s .pre .1 .0 .0) (s .pre .1 .0 .1) (cfl m) f))
 
 abbrev told : tie.After-enum-told3 → tie.After-enum-told
 told c = c .before .before .before .before
@@ -225,7 +226,7 @@ complete-requires c κs =
     let found : (i : ℕ) → i < cells r → i < 512 = λ i l. omega (arith, l, k .few) in (
       s .pre .0,
       (
-        record { time = s .pre .1 .0; cfl = cfl (told m); deep = deep m },
+        record { time = s .pre .1 .0 .0; strickler = s .pre .1 .0 .1; cfl = cfl (told m); deep = deep m },
         (
           record {
             net-long = omega (arith, net-length w, k .few);
@@ -233,7 +234,7 @@ complete-requires c κs =
             discharge-long = omega (arith, discharge-length w, k .few);
             nets = swept w .nets;
             depths = depths-found w;
-            discharges = discharge-of r k t (wants w) (wanted w) (net w) (given w) (depth w) (discharge w) (swept w);
+            discharges = discharge-of r k t (wants w) (wanted w) (net w) (given w) (depth w) (discharge w) (swept w) (deep m);
             gots = got-of r k t (wants w) (wanted w) (net w) (given w) (depth w) (discharge w) (swept w) _ (c .before .before .before .before .before .before .before .before .deal-out .ensures);
           },
           s .pre .1 .1,

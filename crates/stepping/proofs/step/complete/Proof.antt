@@ -35,7 +35,7 @@ whole s = sound (reach s) (s .args .held .boundaries) (s .pre .0)
 fine : (s : tie.Start) → Mesh (s .args .t) (s .args .x)
 fine s = mesh (reach s) (whole s) (s .args .t) (s .pre .1 .0 .time)
 
-found : (s : tie.Start) → StepFound (reach s) (s .args .t) (now (s .args .net)) (now (s .args .new-depth)) (now (s .args .new-discharge)) (s .args .got)
+found : (s : tie.Start) → StepFound (reach s) (s .args .t) (s .args .f) (now (s .args .net)) (now (s .args .new-depth)) (now (s .args .new-discharge)) (s .args .got)
 found s = s .pre .1 .1 .0
 
 drawn : (s : tie.Start) → now (s .args .drawn) ≡ tabulate cellsMost (cutDrawn (s .args .held .outlets))
@@ -137,8 +137,8 @@ returns c =
     let a = s .args in
     let p = s .pre .1 .0 in
     let f = sym (ap allTotalsFit (booked b)) ∙ refused-by 13 _ _ _ (c .before .before .before .check-room .ensures) (c .before .enum-told2 .given .1) in
-    subst (λ (r : StepAnswer). StepCameTo (reach s) (a .t) r (now (a .depth)) (now (a .discharge)) (now (a .mass)) (now (a .base)) (now (a .carried))) (sym (c .stopped .ensures))
-    (stayed (reach s) (a .t) 13 (omega arith) (stopped-13 (reach s) (a .t) (s .pre .0) (p .time) (p .cfl) (p .deep) f))
+    subst (λ (r : StepAnswer). StepCameTo (reach s) (a .t) (a .f) r (now (a .depth)) (now (a .discharge)) (now (a .mass)) (now (a .base)) (now (a .carried))) (sym (c .stopped .ensures))
+    (stayed (reach s) (a .t) (a .f) 13 (omega arith) (stopped-13 (reach s) (a .t) (a .f) (s .pre .0) (p .time) (p .strickler) (p .cfl) (p .deep) f))
 
 transport-when-requires : tie.Need-transport-when-requires
 transport-when-requires c κs =
@@ -205,8 +205,8 @@ returns-2 c =
     let moved = m .transport-when .ensures in
     let g = m .before .before .before .before .before in
     let fits = sym (ap allTotalsFit (booked b)) ∙ passed 13 _ _ (g .before .before .check-room .ensures) (g .enum-told .given .1) in
-    came-out r t
-    (stepped-on r t (s .pre .0) (p .time) (p .cfl) (p .deep) fits)
+    came-out r t (s .args .f)
+    (stepped-on r t (s .args .f) (s .pre .0) (p .time) (p .strickler) (p .cfl) (p .deep) fits)
     (booked b)
     e
     (wrote .0 ∙ depth-written r k t (p .cfl) _ _ _ _ w)

@@ -6,7 +6,7 @@ use Prim.Native.Nat.{ℕ, _+_, _-_, _≤_, _<_, min}
 use native.Mathlib.Numerals.{add-one}
 use native.Mathlib.Omega.{arith}
 use denote.Ref.{now}
-use lib.IntN.{ℤ, pos}
+use lib.IntN.{ℤ, pos, natAbs}
 use lib.ListN.{length, getD, length-set}
 use mir.Facts.{toZ-ofZ}
 use mir.Syntax.{w64}
@@ -27,12 +27,12 @@ use Rattle.water.proofs.sweep.sweep.Statement.{statement}
 use Rattle.water.proofs.sweep.sweep.Tie as tie
 
 abbrev Inv-loop : tie.InvT-loop
-Inv-loop t x z h q net₀ given₀ depth₀ discharge₀ boundaries n cell₀ met₀ left₀ i₀ net given depth discharge cell met left i =
+Inv-loop t f x z h q net₀ given₀ depth₀ discharge₀ boundaries n cell₀ met₀ left₀ roots i₀ net given depth discharge cell met left i =
     let s = flowOf z h q x boundaries in
     (i ≤ n)
     × Written (pos 0) (netAt s t) net₀ (i + 1) net
     × Written 0 (λ k. positive (grantedDepth s t (getD given₀ k 0) k)) depth₀ i depth
-    × Written (pos 0) (λ k. grantedDischarge s t (getD given₀ k 0) k) discharge₀ i discharge
+    × Written (pos 0) (λ k. grantedDischarge s t f (getD given₀ k 0) k) discharge₀ i discharge
     × SideStateFits cell
     × (sideOf cell ≡ rightSide s i)
     × ExchangeOf t x (leftSide s i) (rightSide s i) (left .rightward) (left .leftward) (left .momentum) (left .«lost_left») (left .«lost_right»)
@@ -41,13 +41,13 @@ Inv-loop t x z h q net₀ given₀ depth₀ discharge₀ boundaries n cell₀ me
     × Written 0 (λ k. granted s t (getD given₀ k 0) k) given₀ i given
 
 abbrev μ-loop : tie.MeasureT-loop
-μ-loop t x z h q net₀ given₀ depth₀ discharge₀ boundaries n cell₀ met₀ left₀ i₀ net given depth discharge cell met left i = n - i
+μ-loop t f x z h q net₀ given₀ depth₀ discharge₀ boundaries n cell₀ met₀ left₀ roots i₀ net given depth discharge cell met left i = n - i
 
 abbrev entry : tie.After-net-of Inv-loop μ-loop → tie.Start Inv-loop μ-loop
 entry c = c .before .before .before .before .before .before .before .before .before .before .before .before .before
 
 abbrev start : tie.In-loop Inv-loop μ-loop → tie.Start Inv-loop μ-loop
-start c = entry (c .before .before)
+start c = entry (c .before .before .before)
 
 -- the turn of an interface, of what a cell gives, and of what it is left with
 abbrev turn : tie.After-exchange-between Inv-loop μ-loop → tie.In-loop Inv-loop μ-loop
@@ -64,7 +64,7 @@ abbrev cell-at : tie.After-net-of2 Inv-loop μ-loop → tie.In-loop Inv-loop μ-
 cell-at c = turn (gives (left-with (c .before .before)))
 
 abbrev flow : tie.Start Inv-loop μ-loop → Reach
-flow s = flowOf (now (s .args .bed)) (now (s .args .depth)) (now (s .args .discharge)) (s .args .x) (s .args .t6)
+flow s = flowOf (now (s .args .bed)) (now (s .args .depth)) (now (s .args .discharge)) (s .args .x) (s .args .t7)
 
 -- the first cell and the left boundary beside it
 first : (c : tie.After-cell-state Inv-loop μ-loop) → SideStateFits (c .cell-state .result) × (sideOf (c .cell-state .result) ≡ cellSide (flow (c .before .before .before .before .before .before .before)) 0)
@@ -85,7 +85,7 @@ stored c = toZ w64 (ofZ w64 (c .net-of .result))
 
 -- the interface written before the loop changed no length
 net-length : (c : tie.In-loop Inv-loop μ-loop) → length (c .before .loop .net) ≡ length (now (start c .args .net))
-net-length c = c .before .loop .inv .1 .long ∙ length-set (now (start c .args .net)) 0 (stored (c .before .before))
+net-length c = c .before .loop .inv .1 .long ∙ length-set (now (start c .args .net)) 0 (stored (c .before .before .before))
 
 here : (c : tie.In-loop Inv-loop μ-loop) → sideOf (c .before .loop .cell) ≡ cellSide (flow (start c)) (c .before .loop .i)
 here c = c .before .loop .inv .5 ∙ right-side-cell (flow (start c)) (c .before .loop .i) (index c .0)
@@ -147,28 +147,32 @@ net-of-requires : tie.Need-net-of-requires Inv-loop μ-loop
 net-of-requires c κs = c .exchange-level .ensures .1
 
 slice-set-from-net : tie.Need-slice-set-from-net Inv-loop μ-loop
-slice-set-from-net c = let p = entry c .pre .1 .0 in omega (arith, p)
+slice-set-from-net c = let p = entry c .pre .1 .0 .0 in omega (arith, p)
+
+four-thirds-requires : tie.Need-four-thirds-requires Inv-loop μ-loop
+four-thirds-requires c κs = search needs
 
 loop-holds : tie.Need-loop-holds Inv-loop μ-loop
 unfolding allBelow
 loop-holds c =
-    let s = entry c in
+    let o = c .before in
+    let s = entry o in
     let p = s .pre .0 .1 in
-    let a = first (c .before .before .before .before .before .before) in
-    let b = beyond (c .before .before .before .before) in
+    let a = first (o .before .before .before .before .before .before) in
+    let b = beyond (o .before .before .before .before) in
     let r = a .1 ∙ sym (right-side-cell (flow s) 0 (p .some)) in
-    let e = c .before .exchange-level .ensures in
+    let e = o .before .exchange-level .ensures in
     let k = exchange-at (b .1) r (e .0) in
     let meets = sideMeets (s .args .t) (s .args .x) in (
       omega arith,
-      written-first (pos 0) (netAt (flow s) (s .args .t)) (now (s .args .net)) (stored c) (omega (arith, s .pre .1 .0)) (toZ-ofZ (sfits-of (c .net-of .ok)) ∙ c .net-of .ensures ∙ sym (net-by-crossing (flow s) (s .args .t) 0 k)),
+      written-first (pos 0) (netAt (flow s) (s .args .t)) (now (s .args .net)) (stored o) (omega (arith, s .pre .1 .0 .0)) (toZ-ofZ (sfits-of (o .net-of .ok)) ∙ o .net-of .ensures ∙ sym (net-by-crossing (flow s) (s .args .t) 0 k)),
       written-none _ _ _,
       written-none _ _ _,
       a .0,
       r,
       k,
       e .1,
-      c .before .before .still-meets2 .ensures ∙ ap₂ _&&_ (c .before .before .before .still-meets .ensures ∙ ap meets (b .1)) (ap meets r),
+      o .before .before .still-meets2 .ensures ∙ ap₂ _&&_ (o .before .before .before .still-meets .ensures ∙ ap meets (b .1)) (ap meets r),
       written-none _ _ _,
     )
 
@@ -202,7 +206,7 @@ slice-read-granted-of : tie.Need-slice-read-granted-of Inv-loop μ-loop
 slice-read-granted-of c =
     let k = turn (c .before .before) in
     let l = index k in
-    omega (arith, l .0, start k .pre .1 .1 .0, k .before .loop .inv .9 .long)
+    omega (arith, l .0, start k .pre .1 .0 .1 .0, k .before .loop .inv .9 .long)
 
 granted-of-requires : tie.Need-granted-of-requires Inv-loop μ-loop
 granted-of-requires c κs = (turn (c .before .before) .before .loop .inv .7, crossing (c .before .before) .1)
@@ -237,7 +241,7 @@ slice-set-from-new-discharge : tie.Need-slice-set-from-new-discharge Inv-loop μ
 slice-set-from-new-discharge c =
     let k = cell-at c in
     let l = index k in
-    omega (arith, l .0, start k .pre .1 .0, net-length k)
+    omega (arith, l .0, start k .pre .1 .0 .0, net-length k)
 
 mul-given : tie.Need-mul-given Inv-loop μ-loop
 mul-given c = let l = index (cell-at c) in omega (arith, l .1)
@@ -246,7 +250,7 @@ slice-write-given : tie.Need-slice-write-given Inv-loop μ-loop
 slice-write-given c =
     let k = cell-at c in
     let l = index k in
-    omega (arith, l .0, start k .pre .1 .1 .0, k .before .loop .inv .9 .long)
+    omega (arith, l .0, start k .pre .1 .0 .1 .0, k .before .loop .inv .9 .long)
 
 mul-new-depth : tie.Need-mul-new-depth Inv-loop μ-loop
 mul-new-depth c = let l = index (cell-at c) in omega (arith, l .1)
@@ -255,49 +259,55 @@ slice-write-new-depth : tie.Need-slice-write-new-depth Inv-loop μ-loop
 slice-write-new-depth c =
     let k = cell-at c in
     let l = index k in
-    omega (arith, l .0, start k .pre .1 .1 .1 .0, k .before .loop .inv .2 .long)
+    omega (arith, l .0, start k .pre .1 .0 .1 .1 .0, k .before .loop .inv .2 .long)
+
+conveyance-squared-requires : tie.Need-conveyance-squared-requires Inv-loop μ-loop
+conveyance-squared-requires c κs =
+    let k = cell-at (c .before) in (start k .pre .1 .1, k .before .before .four-thirds .ensures)
 
 mul-momentum-after : tie.Need-mul-momentum-after Inv-loop μ-loop
-mul-momentum-after c = let l = index (cell-at c) in omega (arith, l .1)
+mul-momentum-after c = let l = index (cell-at (c .before .before)) in omega (arith, l .1)
 
 shared-slice-copy-out-momentum-after :
     tie.Need-shared-slice-copy-out-momentum-after Inv-loop μ-loop
 shared-slice-copy-out-momentum-after c =
-    let k = cell-at c in
+    let k = cell-at (c .before .before) in
     let l = index k in
     omega (arith, l .0, start k .pre .0 .1 .discharges)
 
 momentum-after-requires : tie.Need-momentum-after-requires Inv-loop μ-loop
 momentum-after-requires c κs =
-    let d = c .before .before .before in
-    let k = cell-at (c .before) in
+    let m = c .before .before .before in
+    let d = m .before .before in
+    let k = cell-at m in
     let i = k .before .loop .i in
     let f = start k .pre .0 .1 .cell i (index k .0) .1 in
     let l = k .before .loop .inv .7 in
     let r = crossing (gives (left-with d)) .1 in
     rw (toZ-ofZ (sfits-of (c .momentum-after-arg .given))) (
-      omega (arith, f .0, f .1),
-      (omega (arith, f .0, l .rightward-most, r .leftward-most, d .depth-after .ensures), (l, r)),
+      (c .before .conveyance-squared .ensures .1, (start k .pre .0 .0 .time, k .before .loop .inv .4)),
+      (omega (arith, f .0, f .1), (omega (arith, f .0, l .rightward-most, r .leftward-most, d .depth-after .ensures), (l, r))),
     )
 
-mul-t41 : tie.Need-mul-t41 Inv-loop μ-loop
-mul-t41 c = let l = index (cell-at (c .before .before)) in omega (arith, l .1)
+mul-t45 : tie.Need-mul-t45 Inv-loop μ-loop
+mul-t45 c = let l = index (cell-at (c .before .before .before .before)) in omega (arith, l .1)
 
 slice-set-from-new-discharge-2 : tie.Need-slice-set-from-new-discharge-2 Inv-loop μ-loop
 slice-set-from-new-discharge-2 c =
-    let k = cell-at (c .before .before) in
+    let k = cell-at (c .before .before .before .before) in
     let l = index k in
-    omega (arith, l .0, start k .pre .1 .1 .1 .1, k .before .loop .inv .3 .long)
+    omega (arith, l .0, start k .pre .1 .0 .1 .1 .1, k .before .loop .inv .3 .long)
 
 add-i : tie.Need-add-i Inv-loop μ-loop
-add-i c = let l = index (cell-at (c .before .before)) in omega (arith, l .1)
+add-i c = let l = index (cell-at (c .before .before .before .before)) in omega (arith, l .1)
 
 loop-less : tie.Need-loop-less Inv-loop μ-loop
-loop-less c = let l = index (cell-at (c .before .before)) in omega (arith, l .0)
+loop-less c = let l = index (cell-at (c .before .before .before .before)) in omega (arith, l .0)
 
 loop-again : tie.Need-loop-again Inv-loop μ-loop
 loop-again c =
-    let m = c .before .before in
+    let e = c .before .before in
+    let m = e .before .before in
     let d = m .before .before in
     let g = gives (left-with d) in
     let k = turn g in
@@ -312,18 +322,18 @@ loop-again c =
     let taken = left-with d .granted-of .ensures ∙ ap (min _) (w .9 .same i (omega arith)) in
     let depth = rw taken at (d .depth-after .ensures) in (
       omega (arith, l),
-      written-more (pos 0) (netAt s (a .t)) _ (i + 1) _ _ (w .1) (omega (arith, l, start k .pre .1 .0, net-length k, w .1 .long))
+      written-more (pos 0) (netAt s (a .t)) _ (i + 1) _ _ (w .1) (omega (arith, l, start k .pre .1 .0 .0, net-length k, w .1 .long))
           (toZ-ofZ (sfits-of (m .net-of2 .ok)) ∙ m .net-of2 .ensures ∙ sym (net-by-crossing s (a .t) (i + 1) (r .0))),
-      written-more 0 (λ j. positive (grantedDepth s (a .t) (want j) j)) _ i _ _ (w .2) (omega (arith, l, start k .pre .1 .1 .1 .0))
+      written-more 0 (λ j. positive (grantedDepth s (a .t) (want j) j)) _ i _ _ (w .2) (omega (arith, l, start k .pre .1 .0 .1 .1 .0))
           (depth ∙ sym (depth-by-crossings s (a .t) i l (w .6) (r .0) (want i))),
-      written-more (pos 0) (λ j. grantedDischarge s (a .t) (want j) j) _ i _ _ (w .3) (omega (arith, l, start k .pre .1 .1 .1 .1))
-          (toZ-ofZ (sfits-of (c .momentum-after .ok)) ∙ rw (toZ-ofZ (sfits-of (c .before .momentum-after-arg .given)), depth) at (c .momentum-after .ensures) ∙ sym (discharge-by-crossings s (a .t) i l (w .6) (r .0) (want i))),
+      written-more (pos 0) (λ j. grantedDischarge s (a .t) (a .f) (want j) j) _ i _ _ (w .3) (omega (arith, l, start k .pre .1 .0 .1 .1 .1))
+          (toZ-ofZ (sfits-of (c .momentum-after .ok)) ∙ rw (toZ-ofZ (sfits-of (c .before .momentum-after-arg .given)), depth, ap (λ (d : Side). natAbs (d .velocity)) (here k)) at (c .momentum-after .ensures) ∙ sym (discharge-by-crossings s (a .t) i l (w .6) (r .0) (a .f) (want i) _ (rw depth at (e .conveyance-squared .ensures .0)))),
       n .0,
       n .1,
       r .0,
       r .1,
       m .before .still-meets3 .ensures ∙ ap₂ _&&_ (w .8) (ap (sideMeets (a .t) (a .x)) (n .1)) ∙ meets-more (sideMeets (a .t) (a .x) (leftSide s 0)) (λ j. sideMeets (a .t) (a .x) (rightSide s j)) i,
-      written-more 0 (λ j. granted s (a .t) (want j) j) _ i _ _ (w .9) (omega (arith, l, start k .pre .1 .1 .0))
+      written-more 0 (λ j. granted s (a .t) (want j) j) _ i _ _ (w .9) (omega (arith, l, start k .pre .1 .0 .1 .0))
           (taken ∙ sym (grant-by-crossings s (a .t) i l (w .6) (r .0) (want i))),
     )
 
@@ -333,7 +343,7 @@ check-cfl-requires c κs = search needs
 same-length : tie.Need-same-length Inv-loop μ-loop
 same-length c =
     let k = c .before .before in
-    k .loop .inv .1 .long ∙ length-set (now (entry (k .before) .args .net)) 0 (stored (k .before))
+    k .loop .inv .1 .long ∙ length-set (now (entry (k .before .before) .args .net)) 0 (stored (k .before .before))
 
 same-length-2 : tie.Need-same-length-2 Inv-loop μ-loop
 same-length-2 c = c .before .before .loop .inv .9 .long
@@ -349,7 +359,7 @@ unfolding sidesMeet
 returns c =
     let k = c .before .before in
     let w = k .loop .inv in
-    let s = flow (entry (k .before)) in
+    let s = flow (entry (k .before .before)) in
     let e : k .loop .i ≡ cells s = omega (arith, c .before .loop-test .left, w .0) in (
       c .check-cfl .ensures ∙ ap (passOr 11) (rw (e, add-one (cells s)) at (w .8)),
       (
@@ -380,6 +390,7 @@ sweep-spec =
     exchange-level-requires
     net-of-requires
     slice-set-from-net
+    four-thirds-requires
     loop-holds
     array-copy-out-right-side
     add-right-side
@@ -402,10 +413,11 @@ sweep-spec =
     slice-write-given
     mul-new-depth
     slice-write-new-depth
+    conveyance-squared-requires
     mul-momentum-after
     shared-slice-copy-out-momentum-after
     momentum-after-requires
-    mul-t41
+    mul-t45
     slice-set-from-new-discharge-2
     add-i
     loop-less
