@@ -1,4 +1,4 @@
-//! Runs the cases of report 4529, prints the tables of docs/VALIDATION.md and draws its pictures.
+//! Runs the cases of report 4529 and those of uniform flow, prints the tables of docs/VALIDATION.md and draws its pictures.
 
 use std::error::Error;
 use std::fs;

@@ -1,9 +1,10 @@
-//! The pictures of docs/VALIDATION.md. Lengths, times and concentrations are the report's.
+//! The pictures of docs/VALIDATION.md. Lengths, times and concentrations are the report's, and those of the slope its own.
 
 use crate::cases::{self, Case, MESH, PEAK_EDGE, PEAK_ROW, TABLE_1};
 use crate::exact::DamBreak;
 use crate::run::{run, TWO_STEPS, UPWIND};
 use crate::tables::depth_name;
+use crate::uniform::{self, CELL_LENGTH};
 use canal::chart::{Chart, Panel, Series};
 use jemmyfern::Refusal;
 
@@ -12,6 +13,7 @@ const OURS: &str = "#1f6fb4";
 const OTHER: &str = "#d1660f";
 const BEFORE: &str = "#999999";
 const BED: &str = "#8a6d4b";
+const THIRD: &str = "#2e7d4f";
 
 type Point = (f64, f64);
 
@@ -25,6 +27,7 @@ pub fn all() -> Result<Vec<(String, Chart)>, Refusal> {
     pictures.push(("fronts.svg".to_string(), fronts()?));
     pictures.push(("peak.svg".to_string(), peak()?));
     pictures.push(("lake.svg".to_string(), lake()?));
+    pictures.push(("slope.svg".to_string(), slope()?));
     Ok(pictures)
 }
 
@@ -213,6 +216,47 @@ fn lake() -> Result<Chart, Refusal> {
                 ..panel("Level", "m", vec![])
             },
             panel("Concentration", "report's unit", concentrations),
+        ],
+    })
+}
+
+/// The deeper flows down the gentle slope, with the backwater of the open end. Cells are too short here to be seen as levels.
+fn slope() -> Result<Chart, Refusal> {
+    let flows = uniform::flows();
+    let (mut depths, mut velocities) = (vec![], vec![]);
+    let mut theory = [vec![], vec![]];
+    for (flow, color) in flows.iter().zip([OTHER, OURS, THIRD]) {
+        let steady = flow.steady(CELL_LENGTH)?;
+        let (cells, length) = (steady.depth.len(), steady.cell_metres());
+        let middle = |cell: usize| length * (cell as f64 + 0.5);
+        let line = |value: &dyn Fn(usize) -> f64| -> Vec<Point> {
+            (0..cells).map(|cell| (middle(cell), value(cell))).collect()
+        };
+        let (name, end) = (format!("F {}", flow.strickler), steady.depth[cells - 1]);
+        let depth = line(&|cell| steady.depth[cell]);
+        let velocity = line(&|cell| steady.discharge[cell] / steady.depth[cell]);
+        depths.push(Series::line(&name, color, depth));
+        velocities.push(Series::line(&name, color, velocity));
+        let backwater = flow.backwater(steady.passes, end, cells, length);
+        let depth = line(&|cell| backwater[cell]);
+        let velocity = line(&|cell| steady.passes / backwater[cell]);
+        for (lines, points) in theory.iter_mut().zip([depth, velocity]) {
+            // one entry of the legend stands for all, and so smooth a curve needs few points
+            let name = if lines.is_empty() { "theory" } else { "" };
+            let points = points.into_iter().step_by(4).collect();
+            lines.push(Series::line(name, EXACT, points).dashed());
+        }
+    }
+    let [of_depth, of_velocity] = theory;
+    depths.extend(of_depth);
+    velocities.extend(of_velocity);
+    let (slope, minutes) = (flows[0].slope(), uniform::TIME / 60_000);
+    Ok(Chart {
+        title: format!("Down a slope of {slope} with friction, after {minutes} min"),
+        x_label: "x (m)".to_string(),
+        panels: vec![
+            panel("Depth", "m", depths),
+            panel("Velocity", "m/s", velocities),
         ],
     })
 }

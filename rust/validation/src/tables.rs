@@ -5,6 +5,7 @@ use crate::exact::GRAVITY;
 use crate::floating::{self, Against, Choices};
 use crate::profile::Profile;
 use crate::run::{run, Outcome, Way, TWO_STEPS, UPWIND};
+use crate::uniform::{self, Steady, CELL_LENGTH};
 use jemmyfern::Refusal;
 
 pub struct Table {
@@ -17,10 +18,15 @@ type Lines = Result<Vec<Line>, Refusal>;
 
 /// Every table in the order of the page.
 pub fn all() -> Result<Vec<Table>, Refusal> {
+    let steady = uniform::flows();
+    let steady: Result<Vec<_>, _> = steady.iter().map(|f| f.steady(CELL_LENGTH)).collect();
+    let steady = steady?;
     Ok(vec![
         table("Steps, the report's and ours", steps()?),
         table("Distance from the exact solution", errors()?),
         table("The peak of 6.2 and the lake of 6.3", others()?),
+        table("Uniform flow down a slope", uniform(&steady)),
+        table("The cell length on a slope", cell_lengths(&steady)?),
         table("The choices that the report leaves open", choices()?),
         table("The scale of lengths and times", scales()?),
         table("The mesh", meshes()?),
@@ -169,6 +175,72 @@ fn changed(outcome: &Outcome) -> usize {
         + unlike(&a.mass, &b.mass)
         + unlike(&a.base, &b.base)
         + unlike(&a.carried, &b.carried)
+}
+
+fn percent(share: f64) -> String {
+    format!("{:+.2}", 100.0 * share)
+}
+
+fn uniform(flows: &[Steady]) -> Vec<Line> {
+    let mut lines = vec![words(&[
+        "fed (m\u{b2}/s)",
+        "slope",
+        "F",
+        "passes (m\u{b2}/s)",
+        "a cell's discharge off it (%)",
+        "depth, theory (m)",
+        "computed",
+        "off by (%)",
+        "velocity at this depth, theory (m/s)",
+        "computed",
+        "off by (%)",
+        "of it whole centimetres",
+        "of it steps of the bed",
+    ])];
+    lines.extend(flows.iter().map(|steady| {
+        let flow = &steady.flow;
+        vec![
+            flow.fed().to_string(),
+            flow.slope().to_string(),
+            flow.strickler.to_string(),
+            format!("{:.4}", steady.passes),
+            percent(steady.discharge_off()),
+            format!("{:.4}", flow.depth(steady.passes)),
+            format!("{:.4}", steady.mean_depth()),
+            percent(steady.depth_off()),
+            format!("{:.3}", flow.velocity(steady.mean_depth())),
+            format!("{:.3}", steady.mean_velocity()),
+            percent(steady.velocity_off()),
+            percent(steady.centimetres()),
+            percent(steady.steps()),
+        ]
+    }));
+    lines
+}
+
+/// The deeper flows on longer cells, then as they are.
+fn cell_lengths(flows: &[Steady]) -> Lines {
+    let deep: Vec<&Steady> = flows.iter().filter(|s| s.flow.fed() >= 1.0).collect();
+    let mut head = words(&["depth; velocity off by (%)"]);
+    head.extend(deep.iter().map(|s| {
+        let (slope, strickler) = (s.flow.slope(), s.flow.strickler);
+        format!("{slope}, F {strickler}")
+    }));
+    let line = |metres: f64, flows: &[Steady]| {
+        let mut line = vec![format!("cells of {metres} m")];
+        let off = |s: &Steady| [s.depth_off(), s.velocity_off()].map(percent).join("; ");
+        line.extend(flows.iter().map(off));
+        line
+    };
+    let mut lines = vec![head];
+    for times in [4, 2] {
+        let length = CELL_LENGTH * times;
+        let longer: Result<Vec<_>, _> = deep.iter().map(|s| s.flow.steady(length)).collect();
+        lines.push(line(length as f64 / 1e3, &longer?));
+    }
+    let deep: Vec<Steady> = deep.into_iter().cloned().collect();
+    lines.push(line(CELL_LENGTH as f64 / 1e3, &deep));
+    Ok(lines)
 }
 
 /// Steps, in bold with the report's in brackets where they differ.
