@@ -18,7 +18,7 @@
  *   concentration          micrograms per litre; of a cell it is mass / base depth, and there is none where the base depth is 0
  *   mass                   grains: one micrometre of depth at concentration 1; times cell length / 10^12 is g per metre of width
  *   water of a total       micrometres of depth of one cell; times cell length / 10^9 is m3 per metre of width; of an outlet as of the ledger
- *   Strickler coefficient  m^(1/3)/s; great is smooth: concrete has about 60 to 80, earth about 30 to 40, a bed full of weeds about 15 to 25
+ *   Strickler coefficient  m^(1/3)/s; a large one is a smooth bed: concrete has about 60 to 80, earth about 30 to 40, a bed full of weeds about 15 to 25
  *
  * A record is sound when
  *   - every value keeps the limits below,
@@ -206,10 +206,11 @@ jemmyfern_opened jemmyfern_open(const uint8_t *sheet, size_t sheet_length,
 
 /* One water step of t ms; outlets draw.
  *
- * `strickler` is the friction of the bed in this step: Strickler's coefficient F, 10 to 90, or 0 for none. With it the new discharge q of a cell is
- * divided by 1 + g * t * |u| / (F^2 * h^(4/3)) and cut towards zero, u being the velocity before the step and h the depth after it, down to whole
- * centimetres. So friction alone never makes a discharge greater and never turns it. Under 1 cm of depth nothing keeps moving: where F is not 0, such
- * a cell has discharge 0 after the step. Friction touches discharges alone, and the greatest step does not ask for it. */
+ * `strickler` is the friction of the bed in this step: Strickler's coefficient F, 10 to 90, or 0 for none. With it the new discharge of a cell is
+ * divided by 1 + g * t * |u| / (F^2 * h^(4/3)), all in metres and seconds, and rounded towards zero, before it is brought into its range; u is the
+ * velocity before the step and h the depth after it, down to whole centimetres. So friction alone never makes a discharge greater and never turns it.
+ * Where F is not 0, a cell under 1 cm deep has discharge 0 after the step; its water still spreads. Depth stands for the hydraulic radius: side walls
+ * have no friction. Friction touches discharges alone, and the greatest step does not ask for it. */
 jemmyfern_stepped jemmyfern_step(const int64_t *bed, size_t bed_length, uint64_t *depth, size_t depth_length,
                                  int64_t *discharge, size_t discharge_length, uint64_t *mass, size_t mass_length,
                                  uint64_t *base, size_t base_length, int64_t *carried, size_t carried_length,

@@ -1,22 +1,22 @@
 -- Document 02, point 4, sentence by sentence: friction of the bed.
 use mathlib.Core.Path.{_≡_}
-use mathlib.Core.Bool.{cond}
+use mathlib.Core.Bool.{true, cond}
 use mathlib.Core.List.{[], _∷_, _++_}
 use Prim.Native.Nat.{ℕ, suc, _+_, _*_, _/_, _≤_}
 use lib.Dec.{eqb}
-use lib.IntN.{ℤ, pos, _+ℤ_, _*ℤ_, natAbs}
+use lib.IntN.{ℤ, pos, _+ℤ_, _*ℤ_, negℤ, natAbs}
 use lib.Signed.{_≤ℤ_, quotZ}
 use Rattle.numbers.specs.Index.{tabulate}
 use Rattle.numbers.specs.Signed.{positive}
 use Rattle.flux.specs.Velocity.{velocity}
-use Rattle.friction.specs.Friction.{fourThirds, slowed}
+use Rattle.friction.specs.Friction.{stricklerFits, fourThirds, slowed}
 use Rattle.cfl.specs.Cfl.{meetsCfl}
 use Rattle.reach.specs.Reach.{Reach, cells, depthAt, dischargeAt, carriedAt}
 use Rattle.reach.specs.Grounds.{ground, firstRefusal, recordGrounds, allTotalsFit}
 use Rattle.reach.specs.Outcome.{outcome}
 use Rattle.water.specs.Water.{netAt, newDepth, pushed, nearest, newDischarge}
 use Rattle.timestep.specs.GreatestStep.{placeSpeed}
-use Rattle.update.specs.Step.{transportedFirst, stepHeld, timeFits, depthsFit, step, afterStep}
+use Rattle.update.specs.Step.{transportedFirst, stepHeld, timeFits, depthsFit, step, transports, afterStep}
 
 -- 'the greatest whole r with r³ ≤ 1,000·k⁴'
 pub record GreatestRoot (k r : ℕ) : Type 0 where
@@ -32,6 +32,8 @@ pub record NoFurther (y q : ℤ) : Type 0 where
 pub record Friction : Type 0 where
   -- 'A fixed list for whole centimetres'
   pub list : (k : ℕ) → GreatestRoot k (fourThirds k)
+  -- and nothing else is
+  pub one-root : (k r : ℕ) → GreatestRoot k r → r ≡ fourThirds k
   -- 'With k = floor(new depth / 10,000), .. D = F²·r and E = floor(45,518·t·|u| / 1,000,000) with the old speed, the discharge becomes q·D/(D+E) cut towards zero, and 0 where D is 0 and
   -- F is not', 'after the push and before the cut'
   pub discharge : (s : Reach) (t F i : ℕ) → (F ≡ 0 → ⊥) →
@@ -42,6 +44,8 @@ pub record Friction : Type 0 where
   -- 'Its size never grows and its sign never turns': of what friction leaves of any q, and, after the cut, beside the same step without it
   pub no-further : (F t v k : ℕ) (q : ℤ) → NoFurther (slowed F t v k q) q
   pub step-no-further : (s : Reach) (t F i : ℕ) → NoFurther (newDischarge s t F i) (newDischarge s t 0 i)
+  -- in other words, neither what flows to the right is more nor what flows to the left
+  pub parts : (y q : ℤ) → NoFurther y q → (positive y ≤ positive q) × (positive (negℤ y) ≤ positive (negℤ q))
 
 -- the record after a step without friction, every column and field
 abbrev pub frictionless : Reach → (t : ℕ) → Reach
@@ -67,6 +71,9 @@ pub record WithoutFriction : Type 0 where
       ∷ ground 12 (depthsFit s t)
       ∷ ground 13 (allTotalsFit (stepHeld s t))
       ∷ []))) s (frictionless s t)
+  -- an F that is allowed changes neither the number of a step nor whether it transports first,
+  pub same-number : (s : Reach) (t F : ℕ) → stricklerFits F ≡ true → step s t F .refusal ≡ step s t 0 .refusal
+  pub same-transport : (s : Reach) (t F : ℕ) → stricklerFits F ≡ true → transports s t F ≡ transports s t 0
   -- and whatever F is, it moves the discharge alone: depths, mass, carried water, ledger and outlets are the frictionless ones
   pub discharge-alone : (s : Reach) (t F : ℕ) →
       let r = frictionless s t in

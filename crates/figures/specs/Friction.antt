@@ -10,8 +10,8 @@ use Rattle.reach.specs.declared.boundary.Boundary.{Boundary}
 use Rattle.update.specs.Step.{step}
 use Rattle.figures.specs.TwoCells.{noTotals}
 
-abbrev pub openEnd : Boundary
-openEnd = record { kind = 1; reserved = 0; depth = 0; concentration = 0; discharge = pos 0 }
+abbrev pub openClean : Boundary
+openClean = record { kind = 1; reserved = 0; depth = 0; concentration = 0; discharge = pos 0 }
 
 abbrev pub flowing : (q : ℤ) → Reach
 flowing q = record {
@@ -22,13 +22,13 @@ flowing q = record {
   base = 100_000 ∷ [];
   carried = pos 0 ∷ pos 0 ∷ [];
   cellLength = 1_000;
-  held = heldWith (openEnd ∷ openEnd ∷ []) (record { left = noTotals; right = noTotals }) noOutlets;
+  held = heldWith (openClean ∷ openClean ∷ []) (record { left = noTotals; right = noTotals }) noOutlets;
 }
 
 pub record FrictionFigure : Type 0 where
   pub depth-stays : step (flowing (pos 100_000_000)) 100 30 .reach .depth ≡ 100_000 ∷ []
   pub rightwards : step (flowing (pos 100_000_000)) 100 30 .reach .discharge ≡ pos 97_702_107 ∷ []
-  -- towards zero: the floor would be one more
+  -- towards zero: the floor would be −97,702,108
   pub leftwards : step (flowing (negℤ (pos 100_000_000))) 100 30 .reach .discharge ≡ negℤ (pos 97_702_107) ∷ []
   pub without : step (flowing (pos 100_000_000)) 100 0 .reach .discharge ≡ pos 100_000_000 ∷ []
   pub refused : step (flowing (pos 100_000_000)) 100 9 .refusal ≡ 17

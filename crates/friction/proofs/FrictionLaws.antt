@@ -18,8 +18,8 @@ use Rattle.numbers.proofs.SignedLaws.{R, L, times-cross, from-cross, right-sub,
 use Rattle.flux.specs.Limits.{depthMost}
 use Rattle.flux.specs.Velocity.{velocity}
 use Rattle.flux.proofs.VelocityLaws.{velocity-right, velocity-left}
-use Rattle.friction.specs.Friction.{stricklerFits, centimetres, cubeFits, fourThirds, slowedBy}
-use Rattle.friction.specs.Ranges.{tableMost, stricklerMost}
+use Rattle.friction.specs.Friction.{stricklerFits, centimetres, cubeFits, fourThirds, tableMost, slowedBy}
+use Rattle.friction.specs.Ranges.{stricklerMost, fourThirdsMost}
 
 -- ---- the coefficient
 
@@ -70,6 +70,13 @@ four-thirds-is k r l m =
     let a = cube-lt (fourThirds k) (r + 1) (lt-of-le-of-lt (four-thirds-fits k) m) in
     let b = cube-lt r (fourThirds k + 1) (lt-of-le-of-lt l (four-thirds-next k)) in
     omega (arith, a, b)
+
+-- of the list none is above the last
+pub four-thirds-most : (k : ℕ) → k ≤ tableMost → fourThirds k ≤ fourThirdsMost
+four-thirds-most k l =
+    let m : 1_000 * (k * k * k * k) < 29_473 * 29_473 * 29_473 = omega (arith, mul-le-mul (mul-le-mul (mul-le-mul l l) l) l) in
+    let b = cube-lt (fourThirds k) 29_473 (lt-of-le-of-lt (four-thirds-fits k) m) in
+    omega (arith, b)
 
 -- it goes as far as a depth in range
 pub in-list : (h : ℕ) → h ≤ depthMost → centimetres h ≡ min (centimetres h) tableMost
@@ -132,7 +139,7 @@ kept-is s d e p = go ((s * e + (d + e - 1)) / (d + e)) (s - (s * e + (d + e - 1)
 
 -- ---- the parts of what is left
 
--- a part p of a discharge, the other being 0
+-- of a discharge a − b to the right, and of one to the left
 pub rightward-kept : (F D E a b r : ℕ) → (F ≡ 0 → ⊥) → (D ≡ 0 → ⊥) → b ≤ a → r ≡ (a - b) * D / (D + E) → subℕ r 0 ≡ slowedBy F D E (subℕ a b)
 rightward-kept F D E a b r f d l e = from-cross _ _ (omega (arith, right, left, right-sub r 0, left-sub r 0))
   where

@@ -1,10 +1,12 @@
 -- Document 02, point 4: friction of the bed, the semi-implicit Strickler term of document 003 (5.2). Depth in micrometres, speed in mm/s, t in ms; F is
 -- Strickler's coefficient in m^(1/3)/s.
+use mathlib.Core.Path.{_≡_}
 use mathlib.Core.Bool.{Bool, cond, _||_}
-use mathlib.Core.List.{[], _∷_}
-use Prim.Native.Nat.{ℕ, suc, _+_, _*_, _/_}
+use mathlib.Core.List.{List, [], _∷_}
+use Prim.Native.Nat.{ℕ, suc, _+_, _*_, _/_, _≤_}
 use lib.Dec.{leb, eqb}
 use lib.IntN.{ℤ, pos, _*ℤ_}
+use lib.ListN.{getD}
 use lib.Signed.{quotZ}
 use Rattle.numbers.specs.Index.{allOf}
 use Rattle.numbers.specs.Search.{climb}
@@ -21,12 +23,19 @@ centimetres h = h / 10_000
 unfoldable pub cubeFits : (k r : ℕ) → Bool
 cubeFits k r = leb (r * r * r) (1_000 * (k * k * k * k))
 
--- the paper's list: the greatest whole r with r³ ≤ 1,000·k⁴, that is 10·k^(4/3) rounded down; raised from 0 to the first that cannot be raised (no
--- such r is above 1,000·k⁴)
+-- 'the greatest whole r with r³ ≤ 1,000·k⁴', that is 10·k^(4/3) rounded down: raised from 0 to the first that cannot be raised (no such r is above
+-- 1,000·k⁴)
 unfoldable pub fourThirds : ℕ → ℕ
 fourThirds k = climb (λ r. cubeFits k (suc r)) (1_000 * (k * k * k * k)) 0
 
--- D = F²·r, of a depth of k whole centimetres: the square of F·h^(2/3), the conveyance of a metre of width and of depth
+-- 'A fixed list for whole centimetres k = 0..400 holds' it: k goes as far as a depth of 4 m
+abbrev pub tableMost : ℕ
+tableMost = 400
+
+pub record Roots (list : List ℕ) : Type 0 where
+  pub root : (k : ℕ) → k ≤ tableMost → getD list k 0 ≡ fourThirds k
+
+-- D = F²·r, of a depth h of k whole centimetres: the square of F·h^(2/3), the conveyance of an area divided by the area, times 10·100^(4/3) with h in metres
 unfoldable pub conveyanceSquared : (F k : ℕ) → ℕ
 conveyanceSquared F k = F * F * fourThirds k
 

@@ -5,8 +5,8 @@ ghost use mathlib.Core.Path.{_≡_};
 ghost use Prim.Native.Nat.{_+_, _*_, _/_, _≤_, _<_, min};
 ghost use lib.IntN.{subℕ};
 ghost use Rattle.flux.specs.Limits.{velocityMost, timeStepMost};
-ghost use Rattle.friction.specs.Friction.{stricklerFits, centimetres, conveyanceSquared, drag, slowedBy};
-ghost use Rattle.friction.specs.Ranges.{tableMost, stricklerMost, conveyanceSquaredMost, dragMost, pushedMost, Roots};
+ghost use Rattle.friction.specs.Friction.{stricklerFits, centimetres, tableMost, Roots, conveyanceSquared, drag, slowedBy};
+ghost use Rattle.friction.specs.Ranges.{stricklerMost, conveyanceSquaredMost, dragMost, pushedMost};
 use numbers::signed::Parts;
 use table::root_of;
 

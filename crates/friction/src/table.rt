@@ -1,8 +1,8 @@
 // The paper's 'fixed list for whole centimetres' (document 02, point 4).
 ghost use mathlib.Core.Path.{_≡_};
 ghost use Prim.Native.Nat.{_≤_, min};
-ghost use Rattle.friction.specs.Friction.{fourThirds};
-ghost use Rattle.friction.specs.Ranges.{tableMost, fourThirdsMost, Roots};
+ghost use Rattle.friction.specs.Friction.{fourThirds, tableMost, Roots};
+ghost use Rattle.friction.specs.Ranges.{fourThirdsMost};
 
 // The greatest whole r with r³ ≤ 1,000·k⁴, for k = 0..400
 const FOUR_THIRDS: [u16; 401] = [

@@ -27,8 +27,7 @@ use Rattle.flux.specs.Crossing.{waterFlux, stillThrust}
 use Rattle.flux.specs.Interface.{Side, reducedDepth, leftDepth, rightDepth, netWater, momentumSum, mirrored}
 use Rattle.flux.specs.Limits.{depthMost, velocityMost}
 use Rattle.flux.specs.Ranges.{Mesh}
-use Rattle.friction.specs.Friction.{centimetres, conveyanceSquared, drag, slowed, slowedBy}
-use Rattle.friction.specs.Ranges.{tableMost}
+use Rattle.friction.specs.Friction.{centimetres, tableMost, conveyanceSquared, drag, slowed, slowedBy}
 use Rattle.friction.proofs.FrictionLaws.{in-list}
 use Rattle.flux.proofs.CrossingLaws.{still-thrust-mono, still-thrust-most, water-flux-most, momentum-flux-most}
 use Rattle.flux.proofs.VelocityLaws.{velocity-most}

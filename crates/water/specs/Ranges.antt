@@ -13,8 +13,7 @@ use Rattle.flux.specs.Limits.{bedMost, depthMost, velocityMost}
 use Rattle.flux.specs.Crossing.{waterFlux, stillThrust}
 use Rattle.flux.specs.Interface.{Side, leftDepth, rightDepth, momentumSum}
 use Rattle.flux.specs.Wave.{waveSpeed}
-use Rattle.friction.specs.Friction.{centimetres, slowed}
-use Rattle.friction.specs.Ranges.{tableMost}
+use Rattle.friction.specs.Friction.{centimetres, tableMost, slowed}
 use Rattle.reach.specs.Reach.{Reach, reachOf, cells, bedAt, depthAt, dischargeAt, leftBoundary, rightBoundary, heldWith}
 use Rattle.reach.specs.declared.boundary.Boundary.{Boundary}
 use Rattle.reach.specs.declared.ledger.Totals.{Totals}

@@ -434,12 +434,12 @@ impl<'a> Reach<'a> {
         self.step_with_friction(t, 0)
     }
 
-    /// A step over a bed with this Strickler coefficient F, 10..90 m^(1/3)/s, or 0 for no friction. Great is smooth: concrete has about 60 to 80,
-    /// earth about 30 to 40, a bed full of weeds about 15 to 25.
+    /// A step over a bed with this Strickler coefficient F, 10..90 m^(1/3)/s, or 0 for no friction. A large F is a smooth bed: concrete has
+    /// about 60 to 80, earth about 30 to 40, a bed full of weeds about 15 to 25.
     ///
-    /// The new discharge of a cell is divided by `1 + g t |u| / (F² h^(4/3))` and cut towards zero, with the velocity `u` before the step and the
-    /// depth `h` after it, down to whole centimetres. Under 1 cm of depth nothing keeps moving. Friction touches discharges alone, and the greatest
-    /// step does not ask for it.
+    /// The new discharge of a cell is divided by `1 + g t |u| / (F² h^(4/3))`, all in metres and seconds, and rounded towards zero, before it is
+    /// brought into its range; `u` is the velocity before the step and `h` the depth after it, down to whole centimetres. Where F is not 0, a cell under 1 cm deep has discharge 0 after the step. Friction touches
+    /// discharges alone, and the greatest step does not ask for it.
     pub fn step_with_friction(&mut self, t: u64, strickler: u64) -> Result<Stepped, Refusal> {
         let reach = &mut *self;
         let a = call!(jemmyfern_step, reach, as_mut_ptr, as_mut_ptr, t, strickler);

@@ -97,7 +97,7 @@ fn the_end_is_steady_and_does_not_hang_on_the_beginning() {
 }
 
 #[test]
-fn water_backs_up_before_the_open_end_as_theory_says() {
+fn water_backs_up_before_the_open_boundary_as_theory_says() {
     for s in deep().filter(|s| s.flow.per_mille == 1) {
         let (cells, end) = (s.depth.len(), s.depth[s.depth.len() - 1]);
         assert!(end > 1.1 * s.mean_depth());

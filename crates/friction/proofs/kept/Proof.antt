@@ -11,6 +11,9 @@ use Rattle.friction.proofs.kept.Tie as tie
 most : (c : tie.Start) → c .args .s * c .args .e ≤ pushedMost * dragMost
 most c = mul-le-mul (c .pre .0) (c .pre .1 .1 .1)
 
+returns : tie.Need-returns
+returns c = omega (arith, kept-is (c .args .s) (c .args .d) (c .args .e) (c .pre .1 .0))
+
 add-whole : tie.Need-add-whole
 add-whole c = search needs
 
@@ -28,9 +31,6 @@ div-result c = search needs
 
 sub-result-2 : tie.Need-sub-result-2
 sub-result-2 c = omega (arith, lost-most (c .args .s) (c .args .d) (c .args .e) (c .pre .1 .0))
-
-returns : tie.Need-returns
-returns c = omega (arith, kept-is (c .args .s) (c .args .d) (c .args .e) (c .pre .1 .0))
 
 pub kept-spec : {M : Type 1} → statement M
 kept-spec =

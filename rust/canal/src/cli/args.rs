@@ -26,9 +26,9 @@ A file named - is standard input or output. TIME is 90s, 15min, 2h, 1d, 250ms,
 1h30min, or a plain number of seconds. Cells are counted from 0. The greatest step is
 told with where the water is fastest: among equals the highest place, furthest right.
 
-F is in m^(1/3)/s, and great is smooth: concrete has about 60 to 80, earth about 30 to
-40, a bed full of weeds about 15 to 25. Without friction water on a slope only speeds
-up. With it a cell under 1 cm deep has no discharge after a step.
+F is in m^(1/3)/s, and a large one is a smooth bed: concrete has about 60 to 80, earth
+about 30 to 40, a bed full of weeds about 15 to 25. Without friction water on a slope
+only speeds up. With it a cell under 1 cm deep has no discharge after a step.
 
 A table:
 

@@ -59,6 +59,28 @@ fn the_same_step_without_friction() {
     assert_eq!(r.columns, columns(&cells, &[0, 14, 0]));
 }
 
+/// A cell of 100,000 at 1,000 mm/s between open ends flows on: k 10, r 215, D 193,500, E 4,551, and
+/// 100,000,000·193,500 = 97,702,107·198,051 + 6,543.
+#[test]
+fn a_cell_that_flows_on() {
+    let after = |discharge, strickler| {
+        let cell = (0, 100_000, discharge, 0, 100_000);
+        let mut r = Record {
+            columns: columns(&[cell], &[0; 2]),
+            outlets: vec![],
+            x: 1_000,
+            ends: [End { kind: 1, ..WALL }; 2],
+            book: Book::default(),
+        };
+        let refusal = rough_step(&mut r, 100, strickler).refusal;
+        (refusal, r.columns.depth[0], r.columns.discharge[0])
+    };
+    assert_eq!(after(100_000_000, 30), (0, 100_000, 97_702_107));
+    assert_eq!(after(-100_000_000, 30), (0, 100_000, -97_702_107));
+    assert_eq!(after(100_000_000, 0), (0, 100_000, 100_000_000));
+    assert_eq!(after(100_000_000, 9), (17, 100_000, 100_000_000));
+}
+
 /// Speeds 310, −555 and −173; the step settles first. N is 13,329, 9,464, 573 and −199, and 1, 30,000 and 3,000 are drawn.
 /// Pushed to 100,589,654, k 29, r 890, D 801,000, E 1,411.
 /// Pushed to −35,261,852, k 10 (13 before drawing), r 215, D 193,500, E 2,526.

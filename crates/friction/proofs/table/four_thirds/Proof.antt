@@ -9,7 +9,7 @@ use lib.Dec.{leb, ltb}
 use lib.ListN.{getD}
 use Rattle.numbers.specs.Index.{allOf, allBelow}
 use Rattle.numbers.proofs.IndexLaws.{all-of, all-at}
-use Rattle.friction.specs.Ranges.{Roots, tableMost, fourThirdsMost}
+use Rattle.friction.specs.Friction.{tableMost, Roots}
 use Rattle.friction.proofs.FrictionLaws.{four-thirds-is}
 use Rattle.friction.proofs.table.four_thirds.Statement.{statement}
 use Rattle.friction.proofs.table.four_thirds.Tie as tie
@@ -42,8 +42,7 @@ roots =
 
 -- the entry r of k has r³ ≤ 1,000·k⁴ < (r+1)³
 fits : ℕ → ℕ → Bool
-fits k r =
-    allOf (leb (r * r * r) (1_000 * (k * k * k * k)) ∷ ltb (1_000 * (k * k * k * k)) ((r + 1) * (r + 1) * (r + 1)) ∷ leb r fourThirdsMost ∷ [])
+fits k r = allOf (leb (r * r * r) (1_000 * (k * k * k * k)) ∷ ltb (1_000 * (k * k * k * k)) ((r + 1) * (r + 1) * (r + 1)) ∷ [])
 
 all-fit : allBelow 401 (λ k. fits k (getD roots k 0)) ≡ true
 unfolding roots fits allBelow allOf
@@ -57,7 +56,6 @@ unfolding fits
 rule = record {
   root = λ k l.
       let f = fits-at k l in sym (four-thirds-is k (getD roots k 0) (leb-true _ _ (all-of _ f 0)) (ltb-true _ _ (all-of _ f 1)));
-  most = λ k l. leb-true _ _ (all-of _ (fits-at k l) 2);
 }
 
 returns : tie.Need-returns

@@ -1,9 +1,10 @@
 -- `friction::table::root_of` meets its contract. Assumes nothing.
-use mathlib.Core.Path.{_≡_}
+use mathlib.Core.Path.{_≡_, _∙_}
 use Prim.Native.Nat.{_≤_, min}
 use native.Mathlib.Omega.{arith}
 use borrow.Author.Needs.{needs}
-use Rattle.friction.specs.Ranges.{tableMost}
+use Rattle.friction.specs.Friction.{tableMost}
+use Rattle.friction.proofs.FrictionLaws.{four-thirds-most}
 use Rattle.friction.proofs.table.root_of.Statement.{statement}
 use Rattle.friction.proofs.table.root_of.Tie as tie
 
@@ -19,11 +20,11 @@ wide-requires c κs = search needs
 returns : tie.Need-returns
 returns c =
     let s = c .before .before .before in
-    let p = s .pre in
     let k = s .args .k in
     let l : k ≤ tableMost = omega arith in
     let m : min k tableMost ≡ k = omega (arith, l) in
-    rw (m, c .wide .ensures) (p .root k l, p .most k l)
+    let e = c .wide .ensures ∙ s .pre .root k l in
+    rw m (e, omega (arith, e, four-thirds-most k l))
 
 element-copy-out-wide-2 : tie.Need-element-copy-out-wide-2
 element-copy-out-wide-2 c = search needs
@@ -34,9 +35,10 @@ wide-requires-2 c κs = search needs
 returns-2 : tie.Need-returns-2
 returns-2 c =
     let s = c .before .before .before in
-    let p = s .pre in
     let m : min (s .args .k) tableMost ≡ tableMost = omega arith in
-    rw (m, c .wide2 .ensures) (p .root tableMost (omega arith), p .most tableMost (omega arith))
+    let l : tableMost ≤ tableMost = omega arith in
+    let e = c .wide2 .ensures ∙ s .pre .root tableMost l in
+    rw m (e, omega (arith, e, four-thirds-most tableMost l))
 
 pub root-of-spec : {M : Type 1} → statement M
 root-of-spec =
