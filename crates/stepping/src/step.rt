@@ -38,9 +38,9 @@ use reach::cells::CELLS_MOST;
 use reach::check_record_with;
 use reach::held::Held;
 use reach::refusal::Check;
+use sweeping::sweep;
 use transport::BoundaryMass;
 use transport::check_room;
-use water::sweep::sweep;
 
 // What a step hands back: 0 or the number of its refusal, the boundaries held, the ledger, and whether it transported first.
 // A refused step hands the boundaries and the ledger back as they came, and has not transported.

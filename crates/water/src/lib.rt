@@ -1,6 +1,4 @@
 // The water of a step (document 01, 'A water step'): what a cell or a boundary shows at an interface, and what crosses there.
-pub mod sweep;
-
 ghost use mathlib.Core.Path.{_≡_};
 ghost use Prim.Native.Nat.{_*_, _-_, _≤_, _<_};
 ghost use lib.IntN.{pos, _+ℤ_, _-ℤ_, natAbs, subℕ};

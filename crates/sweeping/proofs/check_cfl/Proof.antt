@@ -1,9 +1,9 @@
--- `water::sweep::check_cfl` meets its contract. Assumes nothing.
+-- `sweeping::check_cfl` meets its contract. Assumes nothing.
 use mathlib.Core.Path.{_≡_}
 use borrow.Author.Tests.{not-true, not-false}
 use Rattle.reach.proofs.GroundsLaws.{passes, refuses}
-use Rattle.water.proofs.sweep.check_cfl.Statement.{statement}
-use Rattle.water.proofs.sweep.check_cfl.Tie as tie
+use Rattle.sweeping.proofs.check_cfl.Statement.{statement}
+use Rattle.sweeping.proofs.check_cfl.Tie as tie
 
 returns : tie.Need-returns
 returns c = refuses 11 (not-true (c .before .args .met) (c .if1 .taken))

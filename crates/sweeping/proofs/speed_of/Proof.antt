@@ -1,9 +1,9 @@
--- `water::sweep::speed_of` meets its contract: |u| from the two differences of its parts. Assumes nothing.
+-- `sweeping::speed_of` meets its contract: |u| from the two differences of its parts. Assumes nothing.
 use native.Mathlib.Omega.{arith}
 use borrow.Author.Needs.{needs}
 use Rattle.numbers.proofs.SignedLaws.{abs-sub}
-use Rattle.water.proofs.sweep.speed_of.Statement.{statement}
-use Rattle.water.proofs.sweep.speed_of.Tie as tie
+use Rattle.sweeping.proofs.speed_of.Statement.{statement}
+use Rattle.sweeping.proofs.speed_of.Tie as tie
 
 excess-requires : tie.Need-excess-requires
 excess-requires c κs = search needs

@@ -1,4 +1,4 @@
--- `water::sweep::sweep` meets its contract. The loop carries the cell at hand with what crosses at its left; what it has passed is written as
+-- `sweeping::sweep` meets its contract. The loop carries the cell at hand with what crosses at its left; what it has passed is written as
 -- the definitions say. Assumes nothing.
 use mathlib.Core.Path.{_≡_, sym, ap, ap₂, _∙_}
 use mathlib.Core.Bool.{_&&_}
@@ -19,12 +19,12 @@ use Rattle.flux.specs.Interface.{Side}
 use Rattle.reach.specs.Reach.{Reach, cells}
 use Rattle.reach.specs.declared.boundary.BoundaryPlace.the-variants.{Left}
 use Rattle.reach.specs.Grounds.{passOr}
 use Rattle.water.specs.Sides.{cellSide, boundarySide, leftSide, rightSide}
 use Rattle.water.specs.Water.{netAt}
 use Rattle.water.specs.Ranges.{sideOf, SideStateFits, ExchangeOf, ExchangeFits, flowOf, sideMeets, sidesMeet, granted, grantedDepth, grantedDischarge}
 use Rattle.water.proofs.WaterLaws.{boundary-bed, right-side-cell, exchange-at, left-side-next, right-side-next, net-by-crossing, grant-by-crossings, depth-by-crossings, discharge-by-crossings, meets-more}
-use Rattle.water.proofs.sweep.sweep.Statement.{statement}
-use Rattle.water.proofs.sweep.sweep.Tie as tie
+use Rattle.sweeping.proofs.sweep.Statement.{statement}
+use Rattle.sweeping.proofs.sweep.Tie as tie
 
 abbrev Inv-loop : tie.InvT-loop
 Inv-loop t f x z h q net₀ given₀ depth₀ discharge₀ boundaries n cell₀ met₀ left₀ roots i₀ net given depth discharge cell met left i =

@@ -11,18 +11,11 @@ ghost use Rattle.flux.specs.Ranges.{Mesh};
 ghost use Rattle.friction.specs.Friction.{drag, slowedBy};
 ghost use Rattle.friction.specs.Ranges.{stricklerMost, conveyanceSquaredMost};
 ghost use Rattle.reach.specs.Grounds.{passOr};
 ghost use Rattle.water.specs.Ranges.{sideOf, SideStateFits, ExchangeFits, flowOf, InRange, FlowFits, sideMeets, sidesMeet, Swept};
 ghost use Rattle.flux.specs.Velocity.{velocity};
 ghost use Rattle.reach.specs.declared.boundary.BoundaryPlace.the-variants.{Right};
 ghost use Rattle.water.specs.Sides.{boundarySide};
 ghost use Rattle.water.specs.Water.{nearest};
-use super::Exchange;
-use super::SideState;
-use super::boundary_state;
-use super::cell_state;
-use super::discharge_after;
-use super::exchange_between;
-use super::exchange_level;
 use friction::conveyance_squared;
 use friction::drag_of;
 use friction::table::four_thirds;
@@ -31,6 +24,13 @@ use numbers::signed::joined;
 use reach::boundary::Boundary;
 use reach::boundary::BoundaryPlace;
 use reach::refusal::Check;
+use water::Exchange;
+use water::SideState;
+use water::boundary_state;
+use water::cell_state;
+use water::discharge_after;
+use water::exchange_between;
+use water::exchange_level;
 
 // |u| of a side
 fn speed_of(c: SideState) -> u64

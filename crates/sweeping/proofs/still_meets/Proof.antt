@@ -1,4 +1,4 @@
--- `water::sweep::still_meets` meets its contract. Assumes nothing.
+-- `sweeping::still_meets` meets its contract. Assumes nothing.
 use mathlib.Core.Path.{refl, ap, ap₂}
 use Prim.Native.Nat.{ℕ, _+_, _*_, _≤_}
 use native.Mathlib.Nat.{mul-le-mul}
@@ -6,11 +6,11 @@ use native.Mathlib.Omega.{arith}
 use lib.Dec.{leb}
 use borrow.Author.Tests.{not-true, not-false}
 use Rattle.flux.proofs.WaveLaws.{wave-speed-most}
 use Rattle.water.specs.Sides.{sideSpeed}
 use Rattle.water.specs.Ranges.{sideMeets}
 use borrow.Author.Needs.{needs}
-use Rattle.water.proofs.sweep.still_meets.Statement.{statement}
-use Rattle.water.proofs.sweep.still_meets.Tie as tie
+use Rattle.sweeping.proofs.still_meets.Statement.{statement}
+use Rattle.sweeping.proofs.still_meets.Tie as tie
 
 small : (c : tie.After-struct-known) → c .before .speed-of .result + c .before .before .before .args .c .wave ≤ 16_000
 small c =

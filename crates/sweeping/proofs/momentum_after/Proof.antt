@@ -1,9 +1,9 @@
--- `water::sweep::momentum_after` meets its contract. Assumes nothing.
+-- `sweeping::momentum_after` meets its contract. Assumes nothing.
 use native.Mathlib.Omega.{arith}
 use mir.Facts.{toZ-ofZ}
 use borrow.Author.Needs.{needs, sfits-of}
-use Rattle.water.proofs.sweep.momentum_after.Statement.{statement}
-use Rattle.water.proofs.sweep.momentum_after.Tie as tie
+use Rattle.sweeping.proofs.momentum_after.Statement.{statement}
+use Rattle.sweeping.proofs.momentum_after.Tie as tie
 
 speed-of-requires : tie.Need-speed-of-requires
 speed-of-requires c κs = search needs

@@ -1,12 +1,12 @@
--- `water::sweep::right_side` meets its contract. Assumes nothing.
+-- `sweeping::right_side` meets its contract. Assumes nothing.
 use mathlib.Core.Path.{_≡_, refl, sym, _∙_}
 use Prim.Native.Nat.{ℕ, _<_}
 use native.Mathlib.Omega.{arith}
 use mir.Facts.{toZ-ofZ}
 use borrow.Author.Needs.{needs, sfits-of}
 use borrow.Author.Tests.{lt-ltb, le-ltb}
-use Rattle.water.proofs.sweep.right_side.Statement.{statement}
-use Rattle.water.proofs.sweep.right_side.Tie as tie
+use Rattle.sweeping.proofs.right_side.Statement.{statement}
+use Rattle.sweeping.proofs.right_side.Tie as tie
 
 mul-cell-state : tie.Need-mul-cell-state
 mul-cell-state c = search needs
