@@ -1,6 +1,4 @@
 pub mod Flux
 pub mod Shares
 pub mod Interface
-pub mod Cfl
 pub mod Sheets
-pub mod Grounds

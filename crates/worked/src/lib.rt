@@ -3,9 +3,7 @@
 ghost use Rattle.worked.specs.Flux.{FluxWorked};
 ghost use Rattle.worked.specs.Shares.{SharesWorked};
 ghost use Rattle.worked.specs.Interface.{InterfaceWorked};
-ghost use Rattle.worked.specs.Cfl.{CflWorked};
 ghost use Rattle.worked.specs.Sheets.{SheetsWorked};
-ghost use Rattle.worked.specs.Grounds.{GroundsWorked};
 
 pub fn flux_worked()
     ensures { λ _. ⌜ FluxWorked ⌝ }
@@ -19,14 +17,6 @@ pub fn interface_worked()
     ensures { λ _. ⌜ InterfaceWorked ⌝ }
 {}
 
-pub fn cfl_worked()
-    ensures { λ _. ⌜ CflWorked ⌝ }
-{}
-
 pub fn sheets_worked()
     ensures { λ _. ⌜ SheetsWorked ⌝ }
-{}
-
-pub fn grounds_worked()
-    ensures { λ _. ⌜ GroundsWorked ⌝ }
 {}

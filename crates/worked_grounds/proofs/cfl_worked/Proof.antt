@@ -1,4 +1,4 @@
--- `worked::cfl_worked` meets its contract: every value is computed from the definitions. Assumes nothing.
+-- `worked_grounds::cfl_worked` meets its contract: every value is computed from the definitions. Assumes nothing.
 use mathlib.Core.Path.{refl}
 use Rattle.outlet.specs.Outlets.{fromCell, eachOutlet}
 use Rattle.numbers.specs.Deal.{floors, unitsLeft, hasUnit, handed, dealt}
@@ -20,8 +20,8 @@ use Rattle.water.specs.Sides.{sideSpeed, cellSide, boundarySide, leftSide, righ
 use Rattle.water.specs.Water.{netAt, momentumAt, ownLeft, ownRight, newDepth, pushed, nearest, newDischarge, available, draws, drawOf, undrawnDepth}
 use Rattle.timestep.specs.GreatestStep.{boundarySpeed, leftSpeed, rightSpeed, placeSpeed, greatestTime, greatestPlace, greatest}
 use Rattle.update.specs.Step.{summed, keepsSums, transportedFirst, withWater, withBoundaryWater, stepLedger, afterStep, timeFits, depthsFit, step, summedDrawn, steppedOutlet, stepOutlets, stepHeld}
-use Rattle.worked.proofs.cfl_worked.Statement.{statement}
-use Rattle.worked.proofs.cfl_worked.Tie as tie
+use Rattle.worked_grounds.proofs.cfl_worked.Statement.{statement}
+use Rattle.worked_grounds.proofs.cfl_worked.Tie as tie
 
 returns : tie.Need-returns
 unfolding allOf allBelow tabulate sum climb leastReaching share shares rest maxℤ eqℤ upper lower waterOf waterFlux secondMoment momentumOf momentumFlux stillThrust reducedDepth leftDepth rightDepth netWater momentumSum mirrored velocity waveSpeed signalSpeed speedAt meetsCfl greatestStep fastestPlace cellShares rightwards leftwards movedCell parts outflow firstRefusal lengthsFit cellLengthFits wallFits openFits fedFits kindFits boundaryFits boundariesFit cellFits cellsFit carriedFits carriedCellsFit shutFits carriedFit totalsFit ledgerFits enteringLeft enteringRight withMass ledgerWith transportLedger afterTransport sideSpeed cellSide boundarySide leftSide rightSide netAt momentumAt ownLeft ownRight newDepth pushed nearest newDischarge boundarySpeed leftSpeed rightSpeed placeSpeed greatestTime greatestPlace greatest summed keepsSums transportedFirst withWater withBoundaryWater stepLedger afterStep timeFits depthsFit stricklerFits slowed step movedOutlet movedOutlets outletFits outletsFit outletTotalsFit allTotalsFit transportOutlets transportHeld available draws drawOf undrawnDepth summedDrawn steppedOutlet stepOutlets stepHeld fromCell eachOutlet floors unitsLeft hasUnit handed dealt

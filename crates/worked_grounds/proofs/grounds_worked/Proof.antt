@@ -1,4 +1,4 @@
--- `worked::grounds_worked` meets its contract: every value is computed from the definitions. Assumes nothing.
+-- `worked_grounds::grounds_worked` meets its contract: every value is computed from the definitions. Assumes nothing.
 use mathlib.Core.Path.{refl}
 use Rattle.outlet.specs.Outlets.{fromCell, eachOutlet, cleared}
 use Rattle.numbers.specs.Deal.{floors, unitsLeft, hasUnit, handed, dealt}
@@ -24,8 +24,8 @@ use Rattle.encoding.specs.FromBytes.{numberAt, twosIn, twos, columnAt}
 use Rattle.sheet.specs.Header.{sheetSize, boundaryAt, boundariesOf, editionFits, sizeFits, inside, apart, apartFrom, columnsClear, spansOf}
 use Rattle.sheet.specs.Opening.{sheetRecord, lentFit, opening}
 use Rattle.writing.specs.Writing.{noneCarried, roomFits, writeRefusal, noneDrawn}
-use Rattle.worked.proofs.grounds_worked.Statement.{statement}
-use Rattle.worked.proofs.grounds_worked.Tie as tie
+use Rattle.worked_grounds.proofs.grounds_worked.Statement.{statement}
+use Rattle.worked_grounds.proofs.grounds_worked.Tie as tie
 
 returns : tie.Need-returns
 unfolding allOf allBelow tabulate sum climb leastReaching share shares rest maxℤ eqℤ upper lower waterOf waterFlux secondMoment momentumOf momentumFlux stillThrust reducedDepth leftDepth rightDepth netWater momentumSum mirrored velocity waveSpeed signalSpeed speedAt meetsCfl greatestStep fastestPlace cellShares rightwards leftwards movedCell parts outflow firstRefusal lengthsFit cellLengthFits wallFits openFits fedFits kindFits boundaryFits boundariesFit cellFits cellsFit carriedFits carriedCellsFit shutFits carriedFit totalsFit ledgerFits enteringLeft enteringRight withMass ledgerWith transportLedger afterTransport holding setBoundaries transport sideSpeed cellSide boundarySide leftSide rightSide netAt momentumAt ownLeft ownRight newDepth pushed nearest newDischarge boundarySpeed leftSpeed rightSpeed placeSpeed greatestTime greatestPlace greatest summed keepsSums transportedFirst withWater withBoundaryWater stepLedger afterStep timeFits depthsFit stricklerFits slowed step numberAt twosIn twos columnAt sheetSize boundaryAt boundariesOf editionFits sizeFits inside apart apartFrom columnsClear spansOf sheetRecord lentFit opening noneCarried roomFits writeRefusal movedOutlet movedOutlets outletFits outletsFit outletTotalsFit allTotalsFit transportOutlets transportHeld available draws drawOf undrawnDepth summedDrawn steppedOutlet stepOutlets stepHeld fromCell eachOutlet floors unitsLeft hasUnit handed dealt noneDrawn cleared

@@ -1,0 +1,2 @@
+pub mod Cfl
+pub mod Grounds
