@@ -2,24 +2,12 @@
 
 use reference::outlet::Outlet;
 use reference::random::Record;
-use reference::{Book, End};
+use reference::Book;
 
-use crate::{book, columns, step, WALL};
+use crate::{book, columns, step, FED_AND_OPEN};
 
 /// Wants of 60,000, 0 and 90,000 at cell 1, with one of 1,000 at cell 0 between them; the first has had `water` before.
 fn lending(water: u64) -> Record {
-    let fed = End {
-        kind: 2,
-        depth: 300_000,
-        concentration: 7,
-        zero: 0,
-        discharge: 150_000_000,
-    };
-    let open = End {
-        kind: 1,
-        concentration: 3,
-        ..WALL
-    };
     let cells = [
         (0, 310_000, 60_000_000, 900_001, 310_000),
         (20_000, 125_000, 20_000_000, 500_003, 125_000),
@@ -31,7 +19,7 @@ fn lending(water: u64) -> Record {
         columns: columns(&cells, &[0; 3]),
         outlets: outlets.to_vec(),
         x: 1_000,
-        ends: [fed, open],
+        ends: FED_AND_OPEN,
         book: Book::default(),
     }
 }

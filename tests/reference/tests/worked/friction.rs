@@ -4,7 +4,7 @@ use reference::outlet::Outlet;
 use reference::random::Record;
 use reference::{Book, End};
 
-use crate::{book, columns, rough_step, WALL};
+use crate::{book, columns, rough_step, FED_AND_OPEN, WALL};
 
 /// The left cell is deep and flows to the left at 500 mm/s; the right one lies thinly on a bank and flows to the right at 400.
 fn bank() -> Record {
@@ -87,18 +87,6 @@ fn a_cell_that_flows_on() {
 /// Pushed to −1,663,429, k 0 (1 before drawing), so nothing is left.
 #[test]
 fn a_step_with_outlets_that_settles_first() {
-    let fed = End {
-        kind: 2,
-        depth: 300_000,
-        concentration: 7,
-        zero: 0,
-        discharge: 150_000_000,
-    };
-    let open = End {
-        kind: 1,
-        concentration: 3,
-        ..WALL
-    };
     let cells = [
         (0, 290_000, 90_000_001, 900_001, 130_000),
         (20_000, 126_000, -70_000_000, 500_003, 10_000),
@@ -111,7 +99,7 @@ fn a_step_with_outlets_that_settles_first() {
         columns: columns(&cells, &[285_000, 125_000, 4_000, 4_500]),
         outlets: outlets.to_vec(),
         x: 1_000,
-        ends: [fed, open],
+        ends: FED_AND_OPEN,
         book: Book::default(),
     };
     let answer = rough_step(&mut r, 100, 30);

@@ -1,5 +1,6 @@
-//! Worked examples that pin the model, one module for each file of `crates/worked/specs`: the values that are proved there
-//! of the definitions come from here. Where a number can be found by hand, the comment there says how.
+//! Worked examples that pin the model, one module for each file of `specs/` of `crates/worked`, `worked_grounds` and
+//! `worked_runs`: the values that are proved there of the definitions come from here. Where a number can be found by hand,
+//! the comment there says how.
 
 mod cfl;
 mod draws;
@@ -24,6 +25,22 @@ const WALL: End = End {
     zero: 0,
     discharge: 0,
 };
+
+/// A left end that is fed and a right one that is open.
+const FED_AND_OPEN: [End; 2] = [
+    End {
+        kind: 2,
+        depth: 300_000,
+        concentration: 7,
+        zero: 0,
+        discharge: 150_000_000,
+    },
+    End {
+        kind: 1,
+        concentration: 3,
+        ..WALL
+    },
+];
 
 /// Cells as (bottom, depth, discharge, nutrient, base depth), and the carried water.
 fn columns(cells: &[(i64, u64, i64, u64, u64)], carried: &[i64]) -> Columns {

@@ -3,7 +3,7 @@
 use reference::random::Record;
 use reference::{Book, End};
 
-use crate::{book, columns, step, WALL};
+use crate::{book, columns, step, FED_AND_OPEN, WALL};
 
 #[test]
 fn discharges_are_cut_at_either_side() {
@@ -27,18 +27,6 @@ fn discharges_are_cut_at_either_side() {
 
 /// The left end is fed, the right one open; base depths 300,000 and 100,000.
 fn carrying(right_depth: u64, carried: [i64; 3]) -> Record {
-    let left = End {
-        kind: 2,
-        depth: 300_000,
-        concentration: 7,
-        zero: 0,
-        discharge: 150_000_000,
-    };
-    let right = End {
-        kind: 1,
-        concentration: 3,
-        ..WALL
-    };
     let cells = [
         (0, 310_000, 60_000_000, 900_001, 300_000),
         (20_000, right_depth, 20_000_000, 500_003, 100_000),
@@ -47,7 +35,7 @@ fn carrying(right_depth: u64, carried: [i64; 3]) -> Record {
         columns: columns(&cells, &carried),
         outlets: vec![],
         x: 1_000,
-        ends: [left, right],
+        ends: FED_AND_OPEN,
         book: Book::default(),
     }
 }
