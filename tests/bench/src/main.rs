@@ -12,7 +12,7 @@ use reference::outlet::MOST_OUTLETS;
 use reference::random::{
     any_record, end_of_kind, record_of, sheet_of, strickler, Random, Record, COLUMN_ORDERS,
 };
-use reference::record::{FED, OPEN};
+use reference::record::{FED, OPEN, WALL};
 use reference::sheet::field;
 use reference::{Book, Columns, Outlet};
 use std::hint::black_box;
@@ -148,6 +148,36 @@ fn flow(r: &mut Random, cells: usize, slope: i64) -> Record {
     }
 }
 
+/// Water that the bed does not drive, between walls: each cell's depth, and its discharge, by its number.
+fn basin(r: &mut Random, cells: usize, slope: i64, cell: impl Fn(&mut Random, i64) -> (i64, i64)) -> Record {
+    let mut record = flow(r, cells, slope);
+    let columns = &mut record.columns;
+    for i in 0..cells {
+        let (h, q) = cell(r, i as i64);
+        columns.depth[i] = h as u64;
+        columns.base[i] = h as u64;
+        columns.discharge[i] = q;
+        columns.nutrient[i] = r.below(500_000) * h as u64;
+    }
+    record.ends = [WALL, WALL].map(|kind| end_of_kind(r, kind));
+    record
+}
+
+/// Water of 10 to 20 cm at 2 to 3 m/s, which is faster than its waves, rightwards and leftwards by turns from cell to cell: of u+a and u−a, both above
+/// zero in one cell, neither is in the next.
+fn alternating(r: &mut Random, cells: usize) -> Record {
+    basin(r, cells, 0, |r, i| {
+        let h = r.between(100_000, 200_000);
+        let speed = r.between(2_000, 3_000);
+        (h, h * if i % 2 == 0 { speed } else { -speed })
+    })
+}
+
+/// Water at rest with a level surface over a bed that falls by 1 mm a cell.
+fn still(r: &mut Random, cells: usize) -> Record {
+    basin(r, cells, 1_000, |_, i| (1_000_000 + 1_000 * i, 0))
+}
+
 fn reference_step(p: &mut Planned, strickler: u64) -> reference::StepAnswer {
     let Record {
         columns,
@@ -205,7 +235,23 @@ fn compare_step(name: &str, list: &[Planned], strickler: u64) -> f64 {
     )
 }
 
-/// Steps that keep their sums, steps with a transport first, and steps over a flat bed, without friction and with, of 512 and of 64 cells.
+/// Steps of 512 and of 64 cells, and ours a cell of both.
+fn compare_lengths(kind: &str, strickler: u64, mut list: impl FnMut(usize) -> Vec<Planned>) {
+    let [long, short] = [512, 64].map(|cells| {
+        let name = format!("step of {cells} cells, {kind}");
+        compare_step(&name, &list(cells), strickler) / cells as f64
+    });
+    let ratio = long / short;
+    if !ratio.is_nan() {
+        println!(
+            "{:<40} {long:>9.1} ns {short:>9.1} ns   ratio {ratio:.2}, aim 0.9 to 1.1",
+            "  ours a cell, of 512 and of 64"
+        );
+    }
+}
+
+/// Steps that keep their sums, steps with a transport first, and steps over a flat bed, without friction and with; then first steps of water whose
+/// direction alternates from cell to cell, and of water at rest.
 fn compare_steps(r: &mut Random) {
     let kinds = [
         ("sloping bed", 1_000, false, 0),
@@ -215,33 +261,26 @@ fn compare_steps(r: &mut Random) {
         ("flat bed, friction", 0, false, ROUGH),
     ];
     for (kind, slope, transported, strickler) in kinds {
-        let [long, short] = [512, 64].map(|cells| {
-            let list = planned(r, cells, slope, transported);
-            let name = format!("step of {cells} cells, {kind}");
-            compare_step(&name, &list, strickler) / cells as f64
+        compare_lengths(kind, strickler, |cells| {
+            planned(r, cells, slope, transported)
         });
-        let ratio = long / short;
-        if ratio.is_nan() {
-            continue;
-        }
-        println!(
-            "{:<40} {long:>9.1} ns {short:>9.1} ns   ratio {ratio:.2}, aim 0.9 to 1.1",
-            "  ours a cell, of 512 and of 64"
-        );
+    }
+    for (kind, record) in [("alternating", alternating as fn(&mut _, _) -> _), ("still", still)] {
+        compare_lengths(kind, 0, |cells| first_steps(|| record(r, cells)));
     }
 }
 
-/// Each flow as it is, before any step.
-fn new_flows(r: &mut Random, cells: usize, slope: i64) -> Vec<Planned> {
-    let new = |r: &mut Random| {
-        let record = flow(r, cells, slope);
+/// The greatest step of each record, before any other.
+fn first_steps(mut record: impl FnMut() -> Record) -> Vec<Planned> {
+    let mut new = || {
+        let record = record();
         let answer = agreement::calls::greatest_step(&record);
         Planned {
             record,
             t: answer.t,
         }
     };
-    (0..40).map(|_| new(r)).collect()
+    (0..40).map(|_| new()).collect()
 }
 
 /// One step, with outlets against the same without any; putting the record back as it came counts for both. A first step makes no transport, so that
@@ -271,7 +310,7 @@ fn compare_drawing(name: &str, plain: &[Planned], outlets: &[Outlet], most: f64)
 
 /// A step of 512 cells with outlets, against the same without: none, 32 along the reach, 32 at one cell that fit, and that have to share.
 fn compare_outlets(r: &mut Random) {
-    let plain = new_flows(r, 512, 1_000);
+    let plain = first_steps(|| flow(r, 512, 1_000));
     let list = |place: fn(u64) -> u64, want: u64| -> Vec<Outlet> {
         let outlets = (0..MOST_OUTLETS as u64).map(|k| Outlet::new(place(k), want));
         outlets.collect()
@@ -312,7 +351,7 @@ fn compare_friction(r: &mut Random) {
         print_heads("a proved call", "friction", "without");
     }
     for (name, slope) in lines {
-        let list = new_flows(r, 512, slope);
+        let list = first_steps(|| flow(r, 512, slope));
         let scratch = std::cell::RefCell::new(list[0].record.clone());
         let step = |i: usize, strickler: u64| {
             let mut record = scratch.borrow_mut();
