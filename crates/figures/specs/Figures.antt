@@ -1,11 +1,11 @@
--- Document 01, 'Figures to meet': the starred figures, in one table, with the wave speed of document 02, point 3, and three of the list of its point 4. Depths in micrometres, X in mm, t in ms.
+-- Document 01, 'Figures to meet': the starred figures, in one table, with the wave speed of document 02, point 3, three of the list of its point 4, and the ends of its point 5. Depths in micrometres, X in mm, t in ms.
 use mathlib.Core.Path.{_≡_}
 use mathlib.Core.List.{[], _∷_}
 use Prim.Native.Nat.{ℕ, _+_}
-use lib.IntN.{pos}
+use lib.IntN.{pos, negℤ}
 use Rattle.numbers.specs.Shares.{shares, rest}
 use Rattle.flux.specs.Wave.{waveSpeed}
-use Rattle.flux.specs.Crossing.{waterFlux, momentumFlux}
+use Rattle.flux.specs.Crossing.{upper, lower, waterFlux, momentumFlux}
 use Rattle.friction.specs.Friction.{fourThirds}
 
 pub record Figures : Type 0 where
@@ -26,3 +26,12 @@ pub record Figures : Type 0 where
   pub r-1 : fourThirds 1 ≡ 10
   pub r-100 : fourThirds 100 ≡ 4_641
   pub r-400 : fourThirds 400 ≡ 29_472
+  -- the larger of x and 0, at both ends of ±16,000 and about 0: A of x = u+a, B of x = u−a
+  pub A-most : upper 8_000 (pos 8_000) ≡ 16_000
+  pub A-1 : upper 8_000 (negℤ (pos 7_999)) ≡ 1
+  pub A-0 : upper 8_000 (negℤ (pos 8_000)) ≡ 0
+  pub A-below-0 : upper 7_999 (negℤ (pos 8_000)) ≡ 0
+  pub B-1 : lower 7_999 (pos 8_000) ≡ 1
+  pub B-0 : lower 8_000 (pos 8_000) ≡ 0
+  pub B-below-0 : lower 8_000 (pos 7_999) ≡ 0
+  pub B-least : lower 8_000 (negℤ (pos 8_000)) ≡ 0

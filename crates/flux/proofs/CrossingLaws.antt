@@ -7,7 +7,7 @@ use native.Mathlib.Nat.{le-div-iff-mul-le, zero-lt-suc, mul-le-mul, mul-le-mul-l
 use native.Mathlib.Omega.{arith}
 use lib.IntN.{ℤ, pos, negsuc, _+ℤ_, _-ℤ_, negℤ, subℕ, natAbs, negℤ-negℤ}
 use Rattle.numbers.specs.Signed.{positive}
-use Rattle.numbers.proofs.SignedLaws.{R, L, right-sub, left-sub, abs-parts, abs-sub, add-cross, minus-cross, pos-cross, one-part}
+use Rattle.numbers.proofs.SignedLaws.{R, L, abs-parts, abs-sub, add-cross, minus-cross, pos-cross, one-part}
 use Rattle.flux.specs.Limits.{depthMost, velocityMost, timeStepMost, cellLengthLeast, cellLengthMost}
 use Rattle.flux.specs.Wave.{waveSpeed}
 use Rattle.flux.specs.Crossing.{upper, lower, waterOf, waterFlux, secondMoment, momentumOf, momentumFlux, stillThrust}
@@ -32,12 +32,6 @@ lower-parts a u =
 
 pub lower-le-upper : (a : ℕ) (u : ℤ) → lower a u ≤ upper a u
 lower-le-upper a u = omega (arith, upper-parts a u, lower-parts a u)
-
-pub upper-sub : (a p n : ℕ) → upper a (subℕ p n) ≡ p + a - n
-upper-sub a p n = omega (arith, upper-parts a (subℕ p n), right-sub p n, left-sub p n)
-
-pub lower-sub : (a p n : ℕ) → lower a (subℕ p n) ≡ p - (n + a)
-lower-sub a p n = omega (arith, lower-parts a (subℕ p n), right-sub p n, left-sub p n)
 
 -- ---- a dry cell sends nothing
 

@@ -5,21 +5,25 @@ ghost use lib.IntN.{subℕ};
 ghost use Rattle.flux.specs.Limits.{depthMost, velocityMost};
 ghost use Rattle.flux.specs.Crossing.{upper, lower, waterOf, secondMoment, momentumOf, waterFlux, momentumFlux, stillThrust};
 ghost use Rattle.flux.specs.Ranges.{Mesh, Flow, Spectrum, momentMost, waveMost};
-use numbers::signed::excess;
+use numbers::signed::joined;
+use numbers::signed::right_part;
 
 // A and B: of the speeds of a cell, those that go rightwards are lower..upper
-struct Rightgoing {
-    upper: u64,
-    lower: u64,
+pub struct Rightgoing {
+    pub upper: u64,
+    pub lower: u64,
 }
 
-fn rightgoing_of(a: u64, right: u64, left: u64) -> Rightgoing
+// max(u+a, 0) and max(u−a, 0) of the velocity u = right − left, with no fork here nor in what is called
+pub fn rightgoing_of(a: u64, right: u64, left: u64) -> Rightgoing
     requires { ⌜ (a ≤ waveMost) × ((right ≤ velocityMost) × (left ≤ velocityMost)) ⌝ }
     ensures { λ r. ⌜ (r .upper ≡ upper a (subℕ right left)) × (r .lower ≡ lower a (subℕ right left)) ⌝ }
 {
+    let velocity = joined(right, left);
+    let wave = a as i64;
     Rightgoing {
-        upper: excess(right + a, left),
-        lower: excess(right, left + a),
+        upper: right_part(velocity + wave),
+        lower: right_part(velocity - wave),
     }
 }
 

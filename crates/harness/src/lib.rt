@@ -1,14 +1,14 @@
 // Inner functions, the driver and the program's text as C functions, for the comparison tests. Not part of the product.
 ghost use mathlib.Core.Path.{_≡_};
 ghost use Prim.Native.Nat.{_*_, _≤_};
-ghost use lib.IntN.{natAbs};
+ghost use lib.IntN.{natAbs, subℕ};
 ghost use lib.ListN.{length};
 ghost use Rattle.flux.specs.Limits.{depthMost, velocityMost, bedMost};
 ghost use Rattle.flux.specs.Wave.{waveSpeed};
 ghost use Rattle.flux.specs.Velocity.{velocity};
-ghost use Rattle.flux.specs.Crossing.{waterFlux, momentumFlux, stillThrust};
+ghost use Rattle.flux.specs.Crossing.{upper, lower, waterFlux, momentumFlux, stillThrust};
 ghost use Rattle.flux.specs.Interface.{reducedDepth};
-ghost use Rattle.flux.specs.Ranges.{Mesh};
+ghost use Rattle.flux.specs.Ranges.{Mesh, waveMost};
 ghost use Rattle.reach.specs.Reach.{came};
 ghost use Rattle.sheet.specs.Opening.{noneHeld};
 ghost use Rattle.driver.specs.Replay.{ReplayCameTo};
@@ -17,6 +17,7 @@ ghost use Rattle.program.specs.Program.{programText};
 use driver::Replayed;
 use driver::replay;
 use flux::crossing::fluxes_of;
+use flux::crossing::rightgoing_of;
 use flux::crossing::still_thrust;
 use flux::interface::reduced_depth;
 use flux::velocity::velocity_parts;
@@ -54,6 +55,25 @@ pub extern "C" fn harness_side(t: u64, x: u64, h: u64, u: i64) -> Side
         water: c.water,
         momentum: c.momentum,
         still: still_thrust(t, x, h, a),
+    }
+}
+
+// A and B of one side of an interface
+#[repr(C)]
+pub struct Rightgoing {
+    pub upper: u64,
+    pub lower: u64,
+}
+
+#[no_mangle]
+pub extern "C" fn harness_rightgoing(a: u64, right: u64, left: u64) -> Rightgoing
+    requires { ⌜ (a ≤ waveMost) × ((right ≤ velocityMost) × (left ≤ velocityMost)) ⌝ }
+    ensures { λ r. ⌜ (r .upper ≡ upper a (subℕ right left)) × (r .lower ≡ lower a (subℕ right left)) ⌝ }
+{
+    let s = rightgoing_of(a, right, left);
+    Rightgoing {
+        upper: s.upper,
+        lower: s.lower,
     }
 }
 

@@ -10,11 +10,12 @@ pub struct Parts {
     pub left: u64,
 }
 
-// max(z, 0)
+// max(z, 0) by arithmetic, so that there is nothing to predict
 pub fn right_part(z: i64) -> u64
     ensures { λ r. ⌜ r ≡ positive z ⌝ }
 {
-    if z < 0 { 0 } else { z as u64 }
+    let rightwards = (0 <= z) as i64;
+    (rightwards * z) as u64
 }
 
 // max(−z, 0), over the whole range of i64

@@ -25,6 +25,14 @@ returns c =
       r-1 = refl;
       r-100 = refl;
       r-400 = refl;
+      A-most = refl;
+      A-1 = refl;
+      A-0 = refl;
+      A-below-0 = refl;
+      B-1 = refl;
+      B-0 = refl;
+      B-below-0 = refl;
+      B-least = refl;
     }
 
 pub figures-met-spec : {M : Type 1} → statement M

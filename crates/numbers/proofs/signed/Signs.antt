@@ -1,32 +1,20 @@
--- A signed number against 0: the test's two outcomes, for the functions that take a number apart. Assumes nothing.
+-- A signed number against 0: the test's two outcomes, for the function that takes its left part. Assumes nothing.
 use mathlib.Core.Path.{_≡_, refl, sym, ap, subst}
 use mathlib.Core.Bool.{Bool, true, false, cond}
 use Prim.Native.Nat.{ℕ, zero, suc, _+_, _-_, _<_}
 use native.Mathlib.Omega.{arith}
-use lib.IntN.{ℤ, pos, negsuc, negℤ, natAbs, _-ℤ_, subℕ}
+use lib.IntN.{ℤ, pos, negsuc, negℤ, _-ℤ_, subℕ}
 use lib.Dec.{T, ltb}
-use lib.Signed.{ltZ, nonNeg, mag}
+use lib.Signed.{ltZ, mag}
 use borrow.Author.Tests.{ltb-true, le-ltb}
 use mir.Syntax.{w64}
-use mir.Val.{Fits, SFits}
+use mir.Val.{SFits}
 use Rattle.numbers.specs.Signed.{positive}
 
 never : {X : Type 0} → false ≡ true → X
 never e = absurd (subst T (sym e) tt)
 
 -- u < 0 failed
-pub right-cast : (u : ℤ) → ltZ u (pos 0) ≡ false → SFits w64 u → T (nonNeg u) × Fits w64 (natAbs u)
-right-cast (pos n) e f = (tt, record { fits = let l = f .sfits in omega arith })
-right-cast (negsuc n) e f = never (sym e)
-
-pub right-is : (u : ℤ) → ltZ u (pos 0) ≡ false → natAbs u ≡ positive u
-right-is (pos n) e = refl
-right-is (negsuc n) e = never (sym e)
-
-pub right-none : (u : ℤ) → ltZ u (pos 0) ≡ true → 0 ≡ positive u
-right-none (pos n) e = let l = ltb-true n 0 e in omega arith
-right-none (negsuc n) e = refl
-
 pub left-none : (u : ℤ) → ltZ u (pos 0) ≡ false → 0 ≡ positive (negℤ u)
 left-none (pos zero) e = refl
 left-none (pos (suc n)) e = refl
