@@ -19,9 +19,18 @@ pub struct Side {
     pub still: u64,
 }
 
+/// A and B of one side of an interface.
+#[repr(C)]
+#[derive(Clone, Copy, Debug, PartialEq, Eq)]
+pub struct Rightgoing {
+    pub upper: u64,
+    pub lower: u64,
+}
+
 extern "C" {
     fn harness_wave_speed(h: u64) -> u64;
     fn harness_side(t: u64, x: u64, h: u64, u: i64) -> Side;
+    fn harness_rightgoing(a: u64, right: u64, left: u64) -> Rightgoing;
     fn harness_velocity(h: u64, q: i64) -> i64;
     fn harness_reduced_depth(h: u64, z: i64, beside: i64) -> u64;
 }
@@ -39,6 +48,11 @@ pub fn side(t: u64, x: u64, h: u64, u: i64) -> Side {
     mesh(t, x);
     assert!(h <= DEEPEST && u.abs() <= FASTEST);
     unsafe { harness_side(t, x, h, u) }
+}
+
+pub fn rightgoing(a: u64, u: i64) -> Rightgoing {
+    assert!(a <= 8_000 && u.abs() <= FASTEST);
+    unsafe { harness_rightgoing(a, u.max(0) as u64, (-u).max(0) as u64) }
 }
 
 pub fn velocity(h: u64, q: i64) -> i64 {

@@ -149,7 +149,12 @@ fn flow(r: &mut Random, cells: usize, slope: i64) -> Record {
 }
 
 /// Water that the bed does not drive, between walls: each cell's depth, and its discharge, by its number.
-fn basin(r: &mut Random, cells: usize, slope: i64, cell: impl Fn(&mut Random, i64) -> (i64, i64)) -> Record {
+fn basin(
+    r: &mut Random,
+    cells: usize,
+    slope: i64,
+    cell: impl Fn(&mut Random, i64) -> (i64, i64),
+) -> Record {
     let mut record = flow(r, cells, slope);
     let columns = &mut record.columns;
     for i in 0..cells {
@@ -265,7 +270,10 @@ fn compare_steps(r: &mut Random) {
             planned(r, cells, slope, transported)
         });
     }
-    for (kind, record) in [("alternating", alternating as fn(&mut _, _) -> _), ("still", still)] {
+    for (kind, record) in [
+        ("alternating", alternating as fn(&mut _, _) -> _),
+        ("still", still),
+    ] {
         compare_lengths(kind, 0, |cells| first_steps(|| record(r, cells)));
     }
 }
