@@ -12,7 +12,7 @@ use lib.Signed.{mag, _≤ℤ_, leZ, leZ-yes}
 use Rattle.numbers.specs.Signed.{positive, maxℤ, eqℤ}
 use borrow.Author.Tests.{lt-ltb, le-ltb, eqb-true, eqb-false}
 
-pub T-true : (b : Bool) → T b → b ≡ true
+T-true : (b : Bool) → T b → b ≡ true
 T-true true t = refl
 T-true false t = absurd t
 
