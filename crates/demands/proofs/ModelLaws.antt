@@ -17,10 +17,11 @@ use Rattle.numbers.specs.Shares.{share}
 use Rattle.numbers.specs.Signed.{positive}
 use Rattle.numbers.proofs.IndexLaws.{all-at, all-below, all-same, length-tabulate, getD-tabulate, sum-same, sum-tabulate}
 use Rattle.numbers.proofs.DealLaws.{floors-tabulate, dealt-at}
-use Rattle.numbers.proofs.SignedLaws.{from-cross, minus-cross, pos-cross}
+use Rattle.numbers.proofs.SignedLaws.{positive-larger, from-cross, minus-cross, pos-cross}
 use Rattle.numbers.proofs.RootLaws.{square-lt}
 use Rattle.flux.specs.Wave.{waveSpeed}
 use Rattle.flux.proofs.WaveLaws.{wave-speed-meets, wave-speed-least}
+use Rattle.flux.specs.Crossing.{upper, lower}
 use Rattle.flux.proofs.CrossingLaws.{lower-le-upper, water-flux-dry, momentum-flux-dry, still-thrust-dry}
 use Rattle.cfl.specs.Cfl.{signalSpeed, meetsCfl}
 use Rattle.cfl.proofs.CflLaws.{fastest-within, fastest-greatest, fastest-highest, greatest-step-meets, greatest-step-greatest}
@@ -60,9 +61,12 @@ use Rattle.demands.proofs.Demand1Laws.{first}
 use Rattle.demands.proofs.Demand2Laws.{transported-count, lentBy, greatest-stood, greatest-is}
 
 pub amounts : Amounts
+unfolding upper lower
 amounts = record {
   wave-meets = λ h. omega (arith, wave-speed-meets h);
   wave-least = λ h a l. omega (arith, wave-speed-least h a l);
+  upper-larger = λ a u. positive-larger (u +ℤ pos a);
+  lower-larger = λ a u. positive-larger (u -ℤ pos a);
   water-dry = water-flux-dry;
   momentum-dry = momentum-flux-dry;
   thrust-dry = still-thrust-dry;

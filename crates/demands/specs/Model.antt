@@ -9,7 +9,7 @@ use lib.Dec.{leb, ltb, eqb}
 use lib.IntN.{ℤ, pos, _+ℤ_, _-ℤ_, negℤ, natAbs}
 use lib.ListN.{getD}
 use Rattle.numbers.specs.Index.{allOf, allBelow, tabulate, sumBelow, sum}
-use Rattle.numbers.specs.Signed.{positive, eqℤ}
+use Rattle.numbers.specs.Signed.{positive, maxℤ, eqℤ}
 use Rattle.outlet.specs.Outlets.{outletAt}
 use Rattle.outlet.specs.declared.Outlets.{Outlets}
 use Rattle.flux.specs.Wave.{waveSpeed}
@@ -38,6 +38,9 @@ pub record Amounts : Type 0 where
   -- document 02, point 3: 'The wave speed becomes the least whole a with 1,000,000·a² at least 14,709,975·h'
   pub wave-meets : (h : ℕ) → 14_709_975 * h ≤ 1_000_000 * (waveSpeed h * waveSpeed h)
   pub wave-least : (h a : ℕ) → 14_709_975 * h ≤ 1_000_000 * (a * a) → waveSpeed h ≤ a
+  -- document 02, point 5: 'the larger of u+a and 0 or the larger of u−a and 0'
+  pub upper-larger : (a : ℕ) (u : ℤ) → pos (upper a u) ≡ maxℤ (u +ℤ pos a) (pos 0)
+  pub lower-larger : (a : ℕ) (u : ℤ) → pos (lower a u) ≡ maxℤ (u -ℤ pos a) (pos 0)
   -- 'All are 0 when h = 0'
   pub water-dry : (t X : ℕ) (u : ℤ) → waterFlux t X 0 u ≡ 0
   pub momentum-dry : (t X : ℕ) (u : ℤ) → momentumFlux t X 0 u ≡ 0

@@ -5,7 +5,7 @@ use mathlib.Core.Bool.{Bool, true, false, not, cond, _&&_}
 use Prim.Native.Nat.{ℕ, zero, suc, _+_, _-_, _*_, _≤_, _<_}
 use native.Mathlib.Omega.{arith}
 use lib.IntN.{ℤ, pos, negsuc, _+ℤ_, _-ℤ_, _*ℤ_, negℤ, natAbs, subℕ, negℤ-negℤ, pos-*ℤ-pos, negsuc-*ℤ-pos}
-use lib.Dec.{T, eqb, ltb, ltb→lt, nltb→le, leb→le, le→leb, nleb→lt}
+use lib.Dec.{leb·suc-zero, T, eqb, ltb, ltb→lt, nltb→le, leb→le, le→leb, nleb→lt}
 use native.Mathlib.Nat.{le-of-lt}
 use mathlib.Core.Logic.{_⊎_, inl, inr, ⊎-elim}
 use lib.Signed.{mag, _≤ℤ_, leZ, leZ-yes}
@@ -181,6 +181,13 @@ max-cases y z = go (leZ y z) leZ-yes (leZ-no y z)
     go : (b : Bool) → (T b → y ≤ℤ z) → (T (not b) → z ≤ℤ y) → ((cond b z y ≡ z) × (y ≤ℤ z)) ⊎ ((cond b z y ≡ y) × (z ≤ℤ y))
     go true p q = inl (refl, p tt)
     go false p q = inr (refl, q tt)
+
+-- max(z, 0) is the larger of z and 0
+pub positive-larger : (z : ℤ) → pos (positive z) ≡ maxℤ z (pos 0)
+unfolding maxℤ
+positive-larger (pos zero) = refl
+positive-larger (pos (suc n)) = rw (leb·suc-zero n)
+positive-larger (negsuc n) = refl
 
 -- the test of equality, as one of sums
 pub eqℤ-is : (y z : ℤ) → eqℤ y z ≡ eqb (R y + L z) (R z + L y)
