@@ -1,5 +1,5 @@
 /* Whether the library's step forks on the larger of u+a and 0, or of u−a and 0 (document 02, point 5). With the trap flag set the processor stops after
- * each instruction, and the handler notes where. About u = a and u = −a one of the two sums passes 0; nothing else of the step turns there, so that the
+ * each instruction, and the handler notes where. Where u passes a or −a one of the two sums passes 0; nothing else of a step turns there, so that the
  * path has to be one and the same. x86-64, as the library. */
 #define _GNU_SOURCE
 #include "jemmyfern.h"
@@ -40,11 +40,12 @@ static int64_t wave_speed(uint64_t h)
     return (int64_t)a;
 }
 
-/* The path of a step of 10 ms on cells of 1 m, all of depth h and velocity u, between open boundaries */
-static struct path step(uint64_t h, int64_t u)
+/* The path of a step of 10 ms on cells of 1 m, all of depth h and velocity u, between open boundaries; the middle one lies lower by so much */
+static struct path step(int64_t lower, uint64_t h, int64_t u)
 {
     const jemmyfern_boundaries open = {{{.kind = JEMMYFERN_OPEN}, {.kind = JEMMYFERN_OPEN}}};
     const jemmyfern_ledger empty = {0};
+    bed[1] = -lower;
     for (size_t i = 0; i < CELLS; i++)
         depth[i] = base[i] = h, discharge[i] = (int64_t)h * u;
     memset(carried, 0, sizeof carried);
@@ -59,35 +60,35 @@ static struct path step(uint64_t h, int64_t u)
 
 static int same(struct path p, struct path q) { return p.instructions == q.instructions && p.places == q.places; }
 
-/* The path at velocity u, which has to be that at u − 1 and u + 1 */
-static int one_path(uint64_t h, int64_t u, struct path *at)
+/* One path at every velocity of first..last */
+static int one_path(int64_t lower, uint64_t h, int64_t first, int64_t last)
 {
-    *at = step(h, u);
-    if (at->instructions == 0 || !same(step(h, u - 1), *at) || !same(step(h, u + 1), *at)) {
-        printf("depth %d, velocity %d: refused, or another path beside it\n", (int)h, (int)u);
-        return 0;
-    }
-    printf("depth %d, velocity %d and 1 to either side: one path of %d instructions\n", (int)h, (int)u, (int)at->instructions);
+    struct path at = step(lower, h, first);
+    for (int64_t u = first; u <= last; u++)
+        if (at.instructions == 0 || !same(step(lower, h, u), at)) {
+            printf("depth %d, lower by %d, velocity %d: refused, or another path than at %d\n", (int)h, (int)lower, (int)u, (int)first);
+            return 0;
+        }
+    printf("depth %d, lower by %d, velocity %d to %d: one path of %d instructions\n", (int)h, (int)lower, (int)first, (int)last, (int)at.instructions);
     return 1;
 }
 
 int main(void)
 {
-    const uint64_t depths[] = {100000, 1000000};
+    const uint64_t h = 100000;
     struct sigaction action = {.sa_sigaction = note, .sa_flags = SA_SIGINFO};
     if (sigaction(SIGTRAP, &action, NULL) != 0)
         return 2;
-    step(1000000, 0); /* binds what the dynamic linker has to find */
-    for (size_t k = 0; k < sizeof depths / sizeof *depths; k++) {
-        struct path right, left;
-        int64_t a = wave_speed(depths[k]);
-        if (!one_path(depths[k], a, &right) || !one_path(depths[k], -a, &left))
+    step(0, h, 0); /* binds what the dynamic linker has to find */
+    if (same(step(0, h, 0), step(0, 0, 0))) {
+        printf("one path for wet and for dry cells: forks are not seen\n");
+        return 1;
+    }
+    /* over the uneven bed the depths on both sides of the middle cell are reduced, and a with them: u passes both */
+    for (int64_t lower = 0; lower <= 300; lower += 300) {
+        int64_t a = wave_speed(h), least = wave_speed(h - (uint64_t)lower);
+        if (!one_path(lower, h, least - 1, a + 1) || !one_path(lower, h, -a - 1, -least + 1))
             return 1;
-        /* a fork is seen: a velocity is taken apart by its sign */
-        if (same(right, left)) {
-            printf("depth %d: one path rightwards and leftwards\n", (int)depths[k]);
-            return 1;
-        }
     }
     return 0;
 }

@@ -1,4 +1,4 @@
-// The starred figures of document 01, with the wave speed of document 02, point 3. A function without effect ensures them, so that the gate proves the whole table.
+// The starred figures of document 01, with the wave speed of document 02, point 3, and values of its points 4 and 5. Functions ensure them, so that the gate proves the whole table.
 ghost use mathlib.Core.Path.{_≡_};
 ghost use Rattle.figures.specs.Figures.{Figures};
 ghost use Rattle.figures.specs.Friction.{FrictionFigure};
@@ -20,7 +20,7 @@ pub fn friction_met()
 {}
 
 // The larger of x and 0 at both ends of ±16,000 and about 0 (document 02, point 5), as the code gives it
-pub struct Parts {
+pub struct PositiveParts {
     pub least: u64,
     pub below: u64,
     pub zero: u64,
@@ -28,10 +28,10 @@ pub struct Parts {
     pub most: u64,
 }
 
-pub fn parts_met() -> Parts
+pub fn parts_met() -> PositiveParts
     ensures { λ r. ⌜ (r .least ≡ 0) × ((r .below ≡ 0) × ((r .zero ≡ 0) × ((r .above ≡ 1) × (r .most ≡ 16_000)))) ⌝ }
 {
-    Parts {
+    PositiveParts {
         least: right_part(-16_000),
         below: right_part(-1),
         zero: right_part(0),

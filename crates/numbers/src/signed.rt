@@ -10,7 +10,7 @@ pub struct Parts {
     pub left: u64,
 }
 
-// max(z, 0) by arithmetic, so that there is nothing to predict
+// max(z, 0) by arithmetic: no choice that a processor would have to predict
 pub fn right_part(z: i64) -> u64
     ensures { λ r. ⌜ r ≡ positive z ⌝ }
 {

@@ -8,6 +8,8 @@ pub mod sheets;
 
 pub const DEEPEST: u64 = 4_000_000;
 pub const FASTEST: i64 = 8_000;
+/// A round bound of the wave speed, `waveMost`.
+pub const FASTEST_WAVE: u64 = 8_000;
 pub const HIGHEST: i64 = 100_000_000;
 
 /// W, Q and S of one side of an interface.
@@ -51,7 +53,7 @@ pub fn side(t: u64, x: u64, h: u64, u: i64) -> Side {
 }
 
 pub fn rightgoing(a: u64, u: i64) -> Rightgoing {
-    assert!(a <= 8_000 && u.abs() <= FASTEST);
+    assert!(a <= FASTEST_WAVE && u.abs() <= FASTEST);
     unsafe { harness_rightgoing(a, u.max(0) as u64, (-u).max(0) as u64) }
 }
 

@@ -26,20 +26,28 @@ fn source(path: &str) -> String {
 /// The code of a function, without its contract.
 fn body(path: &str, name: &str) -> String {
     let text = source(path);
+    body_in(&text, name).to_string()
+}
+
+fn body_in<'a>(text: &'a str, name: &str) -> &'a str {
     let (_, from) = text.split_once(&format!("fn {name}(")).expect(name);
-    let (_, from) = from.split_once("\n{\n").expect("its first brace");
+    let (head, from) = from.split_once("\n{\n").expect("its first brace");
+    assert!(!head.contains("fn "), "{name} has no contract");
     let (body, _) = from.split_once("\n}\n").expect("its last brace");
-    body.to_string()
+    body
 }
 
 fn of_a_name(c: char) -> bool {
     c.is_ascii_alphanumeric() || c == '_'
 }
 
-/// What is called in a body: each name with a parenthesis right after it.
+/// What is called in a body: each name with a parenthesis right after it. A call of another form is not followed, and so not let pass.
 fn called(body: &str) -> Vec<String> {
     let before = body.split('(').rev().skip(1);
-    let name = |text: &str| text.rsplit(|c| !of_a_name(c)).next().unwrap().to_string();
+    let name = |text: &str| {
+        assert!(!text.ends_with(['!', '>', ')', ']']), "a call in {body}");
+        text.rsplit(|c| !of_a_name(c)).next().unwrap().to_string()
+    };
     let names = before.map(name).filter(|name| !name.is_empty());
     names
         .filter(|name| !FORKS.contains(&name.as_str()))
@@ -90,7 +98,7 @@ fn forks(text: &str) -> Vec<&'static str> {
     all.flat_map(|fork| vec![*fork; times(fork)]).collect()
 }
 
-/// What a function of the harness is compiled to: the name of each instruction.
+/// What a function of the harness is compiled to, an instruction an entry.
 fn instructions(symbol: &str) -> Vec<String> {
     let library = kept("target/staticlib/libharness.a");
     let run = Command::new("objdump")
@@ -106,17 +114,22 @@ fn instructions(symbol: &str) -> Vec<String> {
     let text = String::from_utf8(run.stdout).unwrap();
     let (_, code) = text.split_once(&format!("<{symbol}>:\n")).expect(symbol);
     let lines = code.lines().take_while(|line| !line.is_empty());
-    let name = |line: &str| {
-        let (_, instruction) = line.split_once(":\t").expect("an instruction");
-        instruction.split_whitespace().next().unwrap().to_string()
-    };
-    lines.map(name).collect()
+    let text = |line: &str| line.split_once(":\t").map(|(_, text)| text.to_string());
+    lines
+        .map(|line| text(line).expect("an instruction"))
+        .collect()
 }
 
-/// Every jump of this processor but a call and a return begins so.
+/// How many instructions have a word that begins so; a prefix may stand before an instruction's name.
+fn with(list: &[String], names: &[&str]) -> usize {
+    let named = |word: &str| names.iter().any(|name| word.starts_with(name));
+    let found = |text: &&String| text.split_whitespace().any(named);
+    list.iter().filter(found).count()
+}
+
+/// Every jump of this processor but a call and a return.
 fn jumps(list: &[String]) -> usize {
-    let jump = |name: &&String| name.starts_with('j') || name.starts_with("loop");
-    list.iter().filter(jump).count()
+    with(list, &["j", "loop", "xbegin"])
 }
 
 #[test]
@@ -149,19 +162,33 @@ fn a_fork_in_the_source_is_found() {
 }
 
 #[test]
+#[should_panic(expected = "has no contract")]
+fn the_body_of_another_function_is_not_taken() {
+    let text = "fn bare(z: i64) {\n    if z {}\n}\n\nfn next()\n{\n}\n";
+    body_in(text, "bare");
+}
+
+#[test]
+#[should_panic(expected = "a call in")]
+fn a_call_that_is_not_followed_is_not_passed_over() {
+    called("matches!(z, 0)");
+}
+
+#[test]
 fn no_jump_in_the_object_code() {
     let list = instructions("harness_rightgoing");
     assert_eq!(jumps(&list), 0, "{list:?}");
     // all of it was seen: nothing is called, and it goes from its first instruction to one return
-    let calls = list.iter().filter(|name| name.starts_with("call")).count();
-    let returns = list.iter().filter(|name| name.starts_with("ret")).count();
-    assert_eq!((calls, returns), (0, 1), "{list:?}");
+    assert_eq!(with(&list, &["call"]), 0, "{list:?}");
+    assert_eq!(with(&list, &["ret"]), 1, "{list:?}");
     assert!(list.len() > 5, "{list:?}");
 }
 
 #[test]
 fn a_jump_in_the_object_code_is_found() {
     assert!(jumps(&instructions("harness_side")) > 0);
+    let list = ["bnd jne  1c32 <f+0x2>", "cmovle %rdx,%rax", "sete   %al"].map(String::from);
+    assert_eq!(jumps(&list), 1);
 }
 
 /// Every wave speed with every velocity: u+a is each x of -8,000..16,000, u−a each of -16,000..8,000.

@@ -123,64 +123,77 @@ struct Planned {
     t: u64,
 }
 
-/// A gentle flow of 0.5 to 1.5 m/s in water 1 to 2 m deep, cells of 10 m, fed at the left and open at the right. The bed falls by
-/// `slope` a cell, and every cell differs a little from its neighbours.
-fn flow(r: &mut Random, cells: usize, slope: i64) -> Record {
-    let mut columns = Columns::of_cells(cells);
-    let (depth, velocity) = (r.between(1_000_000, 2_000_000), r.between(500, 1_500));
-    for i in 0..cells {
-        let h = depth + r.between(-20_000, 20_000);
-        columns.bed[i] = -slope * i as i64;
-        columns.depth[i] = h as u64;
-        columns.base[i] = h as u64;
-        columns.discharge[i] = h * velocity + r.between(-20, 20) * h;
-        columns.nutrient[i] = r.below(500_000) * h as u64;
-    }
-    let mut boundaries = [FED, OPEN].map(|kind| end_of_kind(r, kind));
-    boundaries[0].depth = depth as u64;
-    boundaries[0].discharge = depth * velocity;
-    Record {
-        columns,
-        outlets: vec![],
-        x: 10_000,
-        ends: boundaries,
-        book: Book::default(),
-    }
-}
-
-/// Water that the bed does not drive, between walls: each cell's depth, and its discharge, by its number.
-fn basin(
+/// Cells of 10 m over a bed that falls by `slope` a cell, each with the depth and the discharge that `cell` gives its number.
+fn reach_of(
     r: &mut Random,
     cells: usize,
     slope: i64,
     cell: impl Fn(&mut Random, i64) -> (i64, i64),
+    kinds: [u32; 2],
 ) -> Record {
-    let mut record = flow(r, cells, slope);
-    let columns = &mut record.columns;
+    let mut columns = Columns::of_cells(cells);
     for i in 0..cells {
         let (h, q) = cell(r, i as i64);
+        columns.bed[i] = -slope * i as i64;
         columns.depth[i] = h as u64;
         columns.base[i] = h as u64;
         columns.discharge[i] = q;
         columns.nutrient[i] = r.below(500_000) * h as u64;
     }
-    record.ends = [WALL, WALL].map(|kind| end_of_kind(r, kind));
+    Record {
+        columns,
+        outlets: vec![],
+        x: 10_000,
+        ends: kinds.map(|kind| end_of_kind(r, kind)),
+        book: Book::default(),
+    }
+}
+
+/// A gentle flow of 0.5 to 1.5 m/s in water 1 to 2 m deep, fed at the left and open at the right; every cell differs a little from its neighbours.
+fn flow(r: &mut Random, cells: usize, slope: i64) -> Record {
+    let (depth, velocity) = (r.between(1_000_000, 2_000_000), r.between(500, 1_500));
+    let cell = |r: &mut Random, _| {
+        let h = depth + r.between(-20_000, 20_000);
+        (h, h * velocity + r.between(-20, 20) * h)
+    };
+    let mut record = reach_of(r, cells, slope, cell, [FED, OPEN]);
+    record.ends[0].depth = depth as u64;
+    record.ends[0].discharge = depth * velocity;
     record
 }
 
-/// Water of 10 to 20 cm at 2 to 3 m/s, which is faster than its waves, rightwards and leftwards by turns from cell to cell: of u+a and u−a, both above
-/// zero in one cell, neither is in the next.
-fn alternating(r: &mut Random, cells: usize) -> Record {
-    basin(r, cells, 0, |r, i| {
+/// Water of 10 to 20 cm at 2 to 3 m/s, which is faster than its waves: of u+a and u−a, both are above 0 where it goes rightwards and neither where it
+/// goes leftwards.
+fn rapid(r: &mut Random, cells: usize, rightwards: impl Fn(&mut Random, i64) -> bool) -> Record {
+    let cell = |r: &mut Random, i| {
         let h = r.between(100_000, 200_000);
         let speed = r.between(2_000, 3_000);
-        (h, h * if i % 2 == 0 { speed } else { -speed })
-    })
+        (
+            h,
+            if rightwards(r, i) {
+                h * speed
+            } else {
+                -h * speed
+            },
+        )
+    };
+    reach_of(r, cells, 0, cell, [WALL, WALL])
+}
+
+/// The direction turns from each cell to the next.
+fn alternating(r: &mut Random, cells: usize) -> Record {
+    rapid(r, cells, |_, i| i % 2 == 0)
+}
+
+/// Each cell's direction is a toss of a coin, which a processor cannot learn.
+fn tossed(r: &mut Random, cells: usize) -> Record {
+    rapid(r, cells, |r, _| r.below(2) == 0)
 }
 
 /// Water at rest with a level surface over a bed that falls by 1 mm a cell.
 fn still(r: &mut Random, cells: usize) -> Record {
-    basin(r, cells, 1_000, |_, i| (1_000_000 + 1_000 * i, 0))
+    let level = |_: &mut Random, i| (1_000_000 + 1_000 * i, 0);
+    reach_of(r, cells, 1_000, level, [WALL, WALL])
 }
 
 fn reference_step(p: &mut Planned, strickler: u64) -> reference::StepAnswer {
@@ -256,7 +269,7 @@ fn compare_lengths(kind: &str, strickler: u64, mut list: impl FnMut(usize) -> Ve
 }
 
 /// Steps that keep their sums, steps with a transport first, and steps over a flat bed, without friction and with; then first steps of water whose
-/// direction alternates from cell to cell, and of water at rest.
+/// direction alternates from cell to cell or is any, and of water at rest.
 fn compare_steps(r: &mut Random) {
     let kinds = [
         ("sloping bed", 1_000, false, 0),
@@ -270,10 +283,12 @@ fn compare_steps(r: &mut Random) {
             planned(r, cells, slope, transported)
         });
     }
-    for (kind, record) in [
-        ("alternating", alternating as fn(&mut _, _) -> _),
+    let first: [(&str, fn(&mut Random, usize) -> Record); 3] = [
+        ("alternating", alternating),
+        ("directions tossed", tossed),
         ("still", still),
-    ] {
+    ];
+    for (kind, record) in first {
         compare_lengths(kind, 0, |cells| first_steps(|| record(r, cells)));
     }
 }

@@ -1,4 +1,4 @@
--- A signed number against 0: the test's two outcomes, for the function that takes its left part. Assumes nothing.
+-- A signed number against 0: the test's two outcomes, for its left part; and a difference of two numbers that fits. Assumes nothing.
 use mathlib.Core.Path.{_≡_, refl, sym, ap, subst}
 use mathlib.Core.Bool.{Bool, true, false, cond}
 use Prim.Native.Nat.{ℕ, zero, suc, _+_, _-_, _<_}
