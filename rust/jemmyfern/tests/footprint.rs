@@ -7,12 +7,7 @@ use std::process::Command;
 /// tests/footprint.c fails where a call takes 64 KiB or more.
 #[test]
 fn calls_take_little_stack() {
-    let folder = cc::folder("footprint");
-    let program = cc::compiled("tests/footprint.c", "gnu11", &folder);
-    let run = Command::new(&program).output().unwrap();
-    std::fs::remove_dir_all(&folder).unwrap();
-    assert!(run.status.success(), "{run:?}");
-    let text = String::from_utf8(run.stdout).unwrap();
+    let text = cc::printed("footprint");
     assert_eq!(text.matches("bytes of stack").count(), 6, "{text}");
     assert_eq!(text.matches("with 32 outlets").count(), 6, "{text}");
 }

@@ -38,3 +38,14 @@ pub fn compiled(source: &str, standard: &str, folder: &Path) -> PathBuf {
     assert!(status.success(), "{source}");
     program
 }
+
+/// What this C file's program prints, which must say that all is well. (The examples run theirs with arguments.)
+#[allow(dead_code)]
+pub fn printed(name: &str) -> String {
+    let folder = folder(name);
+    let program = compiled(&format!("tests/{name}.c"), "gnu11", &folder);
+    let run = Command::new(&program).output().unwrap();
+    std::fs::remove_dir_all(&folder).unwrap();
+    assert!(run.status.success(), "{run:?}");
+    String::from_utf8(run.stdout).unwrap()
+}
