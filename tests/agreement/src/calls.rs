@@ -9,7 +9,7 @@ use reference::{GreatestAnswer, OpenAnswer, Outlet, StepAnswer, WriteAnswer};
 
 #[repr(C)]
 #[derive(Clone, Copy)]
-struct Boundary {
+pub struct Boundary {
     kind: u32,
     reserved: u32,
     depth: u64,
@@ -19,13 +19,13 @@ struct Boundary {
 
 #[repr(C)]
 #[derive(Clone, Copy)]
-struct Boundaries {
+pub struct Boundaries {
     boundaries: [Boundary; 2],
 }
 
 #[repr(C)]
 #[derive(Clone, Copy)]
-struct RawTotals {
+pub struct RawTotals {
     water_in: u64,
     water_out: u64,
     mass_in: u64,
@@ -34,14 +34,14 @@ struct RawTotals {
 
 #[repr(C)]
 #[derive(Clone, Copy)]
-struct Ledger {
+pub struct Ledger {
     left: RawTotals,
     right: RawTotals,
 }
 
 #[repr(C)]
 #[derive(Clone, Copy, Debug, PartialEq)]
-struct RawOutlet {
+pub struct RawOutlet {
     cell: u64,
     want: u64,
     drawn: u64,
@@ -50,14 +50,14 @@ struct RawOutlet {
 }
 
 #[repr(C)]
-struct RawAnswer {
+pub struct RawAnswer {
     refusal: u32,
     boundaries: [Boundary; 2],
     ledger: Ledger,
 }
 
 #[repr(C)]
-struct RawGreatest {
+pub struct RawGreatest {
     refusal: u32,
     boundaries: [Boundary; 2],
     ledger: Ledger,
@@ -66,7 +66,7 @@ struct RawGreatest {
 }
 
 #[repr(C)]
-struct RawStepped {
+pub struct RawStepped {
     refusal: u32,
     boundaries: [Boundary; 2],
     ledger: Ledger,
@@ -97,108 +97,51 @@ struct RawReplayed {
     outlets: RawOutlets,
 }
 
-// A slice goes to C as a pointer and a length, bed level, depth, discharge, mass, base depth, carried water and outlets in this order.
+/// The type of a function of C on a record or, with a name, its declaration. A slice goes as a pointer and a length, bed level, depth, discharge, mass,
+/// base depth, carried water and outlets in this order; cell length, boundaries and ledger follow, and what the function takes besides. `$water` says
+/// whether it may write depth and discharge, `$slice` the others but the bed level: `mut` or `const`.
+#[macro_export]
+macro_rules! on_record {
+    ($water:tt, $slice:tt $(, $more:ty)* => $answer:ty) => {
+        unsafe extern "C" fn(
+            *const i64, usize,
+            *$water u64, usize,
+            *$water i64, usize,
+            *$slice u64, usize,
+            *$slice u64, usize,
+            *$slice i64, usize,
+            *$slice $crate::calls::RawOutlet, usize,
+            u64, $crate::calls::Boundaries, $crate::calls::Ledger $(, $more)*
+        ) -> $answer
+    };
+    ($function:ident: $water:tt, $slice:tt $(, $more:ty)* => $answer:ty) => {
+        extern "C" {
+            fn $function(
+                z: *const i64, zn: usize,
+                h: *$water u64, hn: usize,
+                q: *$water i64, qn: usize,
+                m: *$slice u64, mn: usize,
+                b: *$slice u64, bn: usize,
+                c: *$slice i64, cn: usize,
+                o: *$slice $crate::calls::RawOutlet, on: usize,
+                x: u64, held: $crate::calls::Boundaries, ledger: $crate::calls::Ledger $(, _: $more)*
+            ) -> $answer;
+        }
+    };
+}
+
+pub type TransportCall = on_record!(const, mut => RawAnswer);
+pub type GreatestCall = on_record!(const, const => RawGreatest);
+/// Takes t and Strickler's coefficient.
+pub type StepCall = on_record!(mut, mut, u64, u64 => RawStepped);
+
+on_record!(jemmyfern_transport: const, mut => RawAnswer);
+on_record!(jemmyfern_greatest_step: const, const => RawGreatest);
+on_record!(jemmyfern_step: mut, mut, u64, u64 => RawStepped);
+on_record!(jemmyfern_set_boundaries: const, mut, Boundaries => RawAnswer);
+on_record!(jemmyfern_write: const, const, *mut u8, usize => RawAnswer);
+
 extern "C" {
-    fn jemmyfern_transport(
-        z: *const i64,
-        zn: usize,
-        h: *const u64,
-        hn: usize,
-        q: *const i64,
-        qn: usize,
-        m: *mut u64,
-        mn: usize,
-        b: *mut u64,
-        bn: usize,
-        c: *mut i64,
-        cn: usize,
-        o: *mut RawOutlet,
-        on: usize,
-        x: u64,
-        held: Boundaries,
-        ledger: Ledger,
-    ) -> RawAnswer;
-    fn jemmyfern_set_boundaries(
-        z: *const i64,
-        zn: usize,
-        h: *const u64,
-        hn: usize,
-        q: *const i64,
-        qn: usize,
-        m: *mut u64,
-        mn: usize,
-        b: *mut u64,
-        bn: usize,
-        c: *mut i64,
-        cn: usize,
-        o: *mut RawOutlet,
-        on: usize,
-        x: u64,
-        held: Boundaries,
-        ledger: Ledger,
-        new: Boundaries,
-    ) -> RawAnswer;
-    fn jemmyfern_greatest_step(
-        z: *const i64,
-        zn: usize,
-        h: *const u64,
-        hn: usize,
-        q: *const i64,
-        qn: usize,
-        m: *const u64,
-        mn: usize,
-        b: *const u64,
-        bn: usize,
-        c: *const i64,
-        cn: usize,
-        o: *const RawOutlet,
-        on: usize,
-        x: u64,
-        held: Boundaries,
-        ledger: Ledger,
-    ) -> RawGreatest;
-    fn jemmyfern_step(
-        z: *const i64,
-        zn: usize,
-        h: *mut u64,
-        hn: usize,
-        q: *mut i64,
-        qn: usize,
-        m: *mut u64,
-        mn: usize,
-        b: *mut u64,
-        bn: usize,
-        c: *mut i64,
-        cn: usize,
-        o: *mut RawOutlet,
-        on: usize,
-        x: u64,
-        held: Boundaries,
-        ledger: Ledger,
-        t: u64,
-        strickler: u64,
-    ) -> RawStepped;
-    fn jemmyfern_write(
-        z: *const i64,
-        zn: usize,
-        h: *const u64,
-        hn: usize,
-        q: *const i64,
-        qn: usize,
-        m: *const u64,
-        mn: usize,
-        b: *const u64,
-        bn: usize,
-        c: *const i64,
-        cn: usize,
-        o: *const RawOutlet,
-        on: usize,
-        x: u64,
-        held: Boundaries,
-        ledger: Ledger,
-        out: *mut u8,
-        outn: usize,
-    ) -> RawAnswer;
     fn jemmyfern_open(
         s: *const u8,
         sn: usize,
@@ -358,8 +301,13 @@ macro_rules! call {
 }
 
 pub fn transport(r: &mut Record) -> Answer {
+    transport_by(jemmyfern_transport, r)
+}
+
+/// As `transport`, by any function of its kind.
+pub fn transport_by(function: TransportCall, r: &mut Record) -> Answer {
     let mut list = lent(&r.outlets);
-    let a = call!(jemmyfern_transport, &mut *r, list, as_ptr, as_mut_ptr);
+    let a = call!(function, &mut *r, list, as_ptr, as_mut_ptr);
     take_back(&mut r.outlets, &list);
     answer(a)
 }
@@ -380,8 +328,13 @@ pub fn set_boundaries(r: &mut Record, new: [End; 2]) -> Answer {
 
 /// Writes nowhere, the list included.
 pub fn greatest_step(r: &Record) -> GreatestAnswer {
+    greatest_step_by(jemmyfern_greatest_step, r)
+}
+
+/// As `greatest_step`, by any function of its kind.
+pub fn greatest_step_by(function: GreatestCall, r: &Record) -> GreatestAnswer {
     let mut list = lent(&r.outlets);
-    let g = call!(jemmyfern_greatest_step, r, list, as_ptr, as_ptr);
+    let g = call!(function, r, list, as_ptr, as_ptr);
     assert_eq!(list, lent(&r.outlets));
     GreatestAnswer {
         refusal: g.refusal,
@@ -394,16 +347,13 @@ pub fn greatest_step(r: &Record) -> GreatestAnswer {
 
 /// A step of t with Strickler's coefficient, 0 for no friction.
 pub fn step(r: &mut Record, t: u64, strickler: u64) -> StepAnswer {
+    step_by(jemmyfern_step, r, t, strickler)
+}
+
+/// As `step`, by any function of its kind.
+pub fn step_by(function: StepCall, r: &mut Record, t: u64, strickler: u64) -> StepAnswer {
     let mut list = lent(&r.outlets);
-    let s = call!(
-        jemmyfern_step,
-        &mut *r,
-        list,
-        as_mut_ptr,
-        as_mut_ptr,
-        t,
-        strickler
-    );
+    let s = call!(function, &mut *r, list, as_mut_ptr, as_mut_ptr, t, strickler);
     take_back(&mut r.outlets, &list);
     StepAnswer {
         refusal: s.refusal,
