@@ -3,6 +3,7 @@
 use mathlib.Core.Path.{_≡_, refl, sym, ap, _∙_}
 use mathlib.Core.Bool.{Bool, true, false, not, cond}
 use mathlib.Core.List.{[], _∷_}
+use mathlib.Core.Logic.{⊎-elim}
 use Prim.Native.Nat.{ℕ, zero, suc, _+_, _-_, _*_, _/_, _≤_, _<_, min}
 use native.Mathlib.Nat.{mul-le-mul, lt-of-not-le, lt-irrefl, lt-of-le-of-lt, div-le-of-le-mul, div-mul-le-self, le-div-iff-mul-le, div-lt-iff-lt-mul, lt-div-mul-add, mul-le-mul-left, zero-mul, zero-div}
 use native.Mathlib.Numerals.{add-one}
@@ -14,7 +15,7 @@ use borrow.Author.Tests.{leb-true, eq-eqb, ne-eqb}
 use Rattle.numbers.specs.Index.{allOf}
 use Rattle.numbers.proofs.IndexLaws.{all-of}
 use Rattle.numbers.proofs.SearchLaws.{climb-stops, climb-holds}
-use Rattle.numbers.proofs.SignedLaws.{R, L, times-cross, from-cross, right-sub, left-sub}
+use Rattle.numbers.proofs.SignedLaws.{R, L, times-cross, from-cross, right-sub, left-sub, one-part}
 use Rattle.flux.specs.Limits.{depthMost}
 use Rattle.flux.specs.Velocity.{velocity}
 use Rattle.flux.proofs.VelocityLaws.{velocity-right, velocity-left}
@@ -139,30 +140,22 @@ kept-is s d e p = go ((s * e + (d + e - 1)) / (d + e)) (s - (s * e + (d + e - 1)
 
 -- ---- the parts of what is left
 
--- of a discharge a − b to the right, and of one to the left
-pub rightward-kept : (F D E a b r : ℕ) → (F ≡ 0 → ⊥) → (D ≡ 0 → ⊥) → b ≤ a → r ≡ (a - b) * D / (D + E) → subℕ r 0 ≡ slowedBy F D E (subℕ a b)
-rightward-kept F D E a b r f d l e = from-cross _ _ (omega (arith, right, left, right-sub r 0, left-sub r 0))
-  where
-    right : R (slowedBy F D E (subℕ a b)) ≡ r
-    right = slowed-right F D E (subℕ a b) f d ∙ ap (λ (n : ℕ). n * D / (D + E)) (right-sub a b) ∙ sym e
+-- of a discharge to the left, and of one to the right
+module _ (F D E r : ℕ) (p : ℤ) (f : F ≡ 0 → ⊥) (d : D ≡ 0 → ⊥) where
+  pub leftward-kept : R p ≡ 0 → r ≡ L p * D / (D + E) → subℕ 0 r ≡ slowedBy F D E p
+  leftward-kept z e =
+      let right = slowed-right F D E p f d ∙ ap (λ (n : ℕ). n * D / (D + E)) z ∙ nothing D (D + E) in
+      from-cross _ _ (omega (arith, right, slowed-left F D E p f d ∙ sym e, right-sub 0 r, left-sub 0 r))
 
-    none : L (subℕ a b) ≡ 0
-    none = left-sub a b ∙ omega (arith, l)
+  pub rightward-kept : (R p ≡ 0 → ⊥) → r ≡ R p * D / (D + E) → subℕ r 0 ≡ slowedBy F D E p
+  rightward-kept z e =
+      let none : L p ≡ 0 = ⊎-elim (λ n. absurd (z n)) (λ n. n) (one-part p) in
+      let left = slowed-left F D E p f d ∙ ap (λ (n : ℕ). n * D / (D + E)) none ∙ nothing D (D + E) in
+      from-cross _ _ (omega (arith, left, slowed-right F D E p f d ∙ sym e, right-sub r 0, left-sub r 0))
 
-    left : L (slowedBy F D E (subℕ a b)) ≡ 0
-    left = slowed-left F D E (subℕ a b) f d ∙ ap (λ (n : ℕ). n * D / (D + E)) none ∙ nothing D (D + E)
-
-pub leftward-kept : (F D E a b r : ℕ) → (F ≡ 0 → ⊥) → (D ≡ 0 → ⊥) → a ≤ b → r ≡ (b - a) * D / (D + E) → subℕ 0 r ≡ slowedBy F D E (subℕ a b)
-leftward-kept F D E a b r f d l e = from-cross _ _ (omega (arith, right, left, right-sub 0 r, left-sub 0 r))
-  where
-    left : L (slowedBy F D E (subℕ a b)) ≡ r
-    left = slowed-left F D E (subℕ a b) f d ∙ ap (λ (n : ℕ). n * D / (D + E)) (left-sub a b) ∙ sym e
-
-    none : R (subℕ a b) ≡ 0
-    none = right-sub a b ∙ omega (arith, l)
-
-    right : R (slowedBy F D E (subℕ a b)) ≡ 0
-    right = slowed-right F D E (subℕ a b) f d ∙ ap (λ (n : ℕ). n * D / (D + E)) none ∙ nothing D (D + E)
+-- no more than there was
+pub kept-most : (s d e : ℕ) → s * d / (d + e) ≤ s
+kept-most s d e = div-le-of-le-mul (d + e) (omega arith)
 
 -- ---- neither part of a discharge grows: 'its size never grows and its sign never turns'
 

@@ -3,11 +3,13 @@ pub mod table;
 
 ghost use mathlib.Core.Path.{_≡_};
 ghost use Prim.Native.Nat.{_+_, _*_, _/_, _≤_, _<_, min};
-ghost use lib.IntN.{subℕ};
+ghost use lib.IntN.{natAbs};
 ghost use Rattle.flux.specs.Limits.{velocityMost, timeStepMost};
 ghost use Rattle.friction.specs.Friction.{stricklerFits, centimetres, tableMost, Roots, conveyanceSquared, drag, slowedBy};
 ghost use Rattle.friction.specs.Ranges.{stricklerMost, conveyanceSquaredMost, dragMost, pushedMost};
-use numbers::signed::Parts;
+use numbers::signed::joined;
+use numbers::signed::left_part;
+use numbers::signed::right_part;
 use table::root_of;
 
 // Whether a coefficient is allowed: 0, or 10 to 90
@@ -51,26 +53,22 @@ fn kept(s: u64, d: u64, e: u64) -> u64
     s - (s * e + (whole - 1)) / whole
 }
 
-// The discharge p after friction, by D and E
-pub fn slow(f: u64, d: u64, e: u64, p: Parts) -> Parts
-    requires { ⌜ (d ≤ conveyanceSquaredMost) × (e ≤ dragMost) ⌝ }
-    requires { ⌜ (p .right ≤ pushedMost) × (p .left ≤ pushedMost) ⌝ }
-    ensures { λ r. ⌜ subℕ (r .right) (r .left) ≡ slowedBy f d e (subℕ (p .right) (p .left)) ⌝ }
+// The discharge p after friction, by D and the speed v before. Without friction E is not worked out.
+pub fn slow(f: u64, d: u64, t: u64, v: u64, p: i64) -> i64
+    requires { ⌜ (d ≤ conveyanceSquaredMost) × ((t ≤ timeStepMost) × (v ≤ velocityMost)) ⌝ }
+    requires { ⌜ natAbs p ≤ pushedMost ⌝ }
+    ensures { λ r. ⌜ r ≡ slowedBy f d (drag t v) p ⌝ }
 {
     if f == 0 {
         return p;
     }
     if d == 0 {
-        return Parts { right: 0, left: 0 };
+        return 0i64;
     }
-    if p.left < p.right {
-        return Parts {
-            right: kept(p.right - p.left, d, e),
-            left: 0,
-        };
+    let e = drag_of(t, v);
+    let right = right_part(p);
+    if right == 0 {
+        return joined(0, kept(left_part(p), d, e));
     }
-    Parts {
-        right: 0,
-        left: kept(p.left - p.right, d, e),
-    }
+    joined(kept(right, d, e), 0)
 }

@@ -17,7 +17,6 @@ ghost use Rattle.reach.specs.declared.boundary.BoundaryPlace.the-variants.{Righ
 ghost use Rattle.water.specs.Sides.{boundarySide};
 ghost use Rattle.water.specs.Water.{nearest};
 use friction::conveyance_squared;
-use friction::drag_of;
 use friction::table::four_thirds;
 use numbers::signed::excess;
 use numbers::signed::joined;
@@ -37,7 +36,7 @@ fn speed_of(c: SideState) -> u64
     requires { ⌜ SideStateFits c ⌝ }
     ensures { λ r. ⌜ (r ≡ natAbs (sideOf c .velocity)) × (r ≤ velocityMost) ⌝ }
 {
-    excess(c.right, c.left) + excess(c.left, c.right)
+    c.right + c.left
 }
 
 // Whether CFL, kept so far, is kept at the side c too
@@ -106,8 +105,7 @@ fn depth_after(h: u64, l: Exchange, r: Exchange, given: u64) -> u64
     )
 }
 
-// Its discharge after friction of its bed, over the depth that it then has; c is the cell before the step
-// and d is D of its new depth
+// Its discharge after friction of its bed, over the depth that it then has; c is the cell before the step and d is D of its new depth
 fn momentum_after(
     f: u64,
     d: u64,
@@ -122,10 +120,14 @@ fn momentum_after(
     requires { ⌜ (natAbs q ≤ velocityMost * depthMost) × ((depth ≤ 2_000_000_000) × (ExchangeFits l × ExchangeFits r)) ⌝ }
     ensures { λ a. ⌜ a ≡ nearest (velocityMost * depth) (slowedBy f d (drag t (natAbs (sideOf c .velocity))) (q +ℤ pos (l .momentum + l .«lost_right») -ℤ pos (r .momentum + r .«lost_left»))) ⌝ }
 {
+    if depth == 0 {
+        return 0;
+    }
     discharge_after(
         f,
         d,
-        drag_of(t, speed_of(c)),
+        t,
+        speed_of(c),
         q,
         l.momentum + l.lost_right,
         r.momentum + r.lost_left,

@@ -9,7 +9,6 @@ ghost use Rattle.reach.specs.Grounds.{numberOf};
 ghost use Rattle.timestep.specs.GreatestStep.{boundarySpeed, refusedWith, greatest};
 use cfl::fastest_of;
 use cfl::longest_step;
-use numbers::signed::excess;
 use reach::boundary::Boundary;
 use reach::boundary::BoundaryPlace;
 use reach::boundary::FED;
@@ -39,7 +38,7 @@ pub fn boundary_speed(p: BoundaryPlace, e: Boundary, c: SideState) -> u64
         return 0;
     }
     let side = boundary_state(p, e, c);
-    excess(side.right, side.left) + excess(side.left, side.right) + side.wave
+    side.right + side.left + side.wave
 }
 
 fn refused(k: Check, held: Held) -> GreatestAnswer

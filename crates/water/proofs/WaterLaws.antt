@@ -23,13 +23,13 @@ use Rattle.numbers.proofs.SearchLaws.{by-test, by-less}
 use Rattle.numbers.proofs.SignedLaws.{R, L, right-sub, left-sub, pos-cross, neg-cross, add-cross, minus-cross, from-cross, le-cross, leZ-no, one-part, two-parts, pos-sub, sub-add, sub-minus, sub-eq, sub-neg, abs-parts, abs-neg, abs-sub}
 use Rattle.flux.specs.Wave.{waveSpeed}
 use Rattle.flux.specs.Velocity.{velocity}
-use Rattle.flux.specs.Crossing.{waterFlux, stillThrust}
+use Rattle.flux.specs.Crossing.{waterFlux, momentumFlux, stillThrust}
 use Rattle.flux.specs.Interface.{Side, reducedDepth, leftDepth, rightDepth, netWater, momentumSum, mirrored}
 use Rattle.flux.specs.Limits.{depthMost, velocityMost}
 use Rattle.flux.specs.Ranges.{Mesh}
 use Rattle.friction.specs.Friction.{centimetres, tableMost, conveyanceSquared, drag, slowed, slowedBy}
 use Rattle.friction.proofs.FrictionLaws.{in-list}
-use Rattle.flux.proofs.CrossingLaws.{still-thrust-mono, still-thrust-most, water-flux-most, momentum-flux-most}
+use Rattle.flux.proofs.CrossingLaws.{still-thrust-mono, still-thrust-most, water-flux-dry, momentum-flux-dry, water-flux-most, momentum-flux-most}
 use Rattle.flux.proofs.VelocityLaws.{velocity-most}
 use Rattle.flux.proofs.InterfaceLaws.{reduced-depth-le, net-water-is, wall-passes-nothing, cell-outflow-le-depth}
 use Rattle.reach.specs.Limits.{wall, openBoundary}
@@ -419,6 +419,29 @@ crossing-fits {t} {X} c {l} {r} g fl fr k =
       momentum-most = omega (arith, k .momentum-is, momentum-flux-most t X hl ul g dl vl, momentum-flux-most t X hr (negℤ ur) g dr vr);
       lost-left-most = omega (arith, k .lost-left-is, still-thrust-most t X (l .depth) g (fl .depth));
       lost-right-most = omega (arith, k .lost-right-is, still-thrust-most t X (r .depth) g (fr .depth));
+    }
+
+-- 0 alone lies in the range of no depth
+pub nearest-dry : (h : ℕ) (z : ℤ) → h ≡ 0 → nearest (velocityMost * h) z ≡ pos 0
+nearest-dry h z e =
+    nearest-parts (velocityMost * h) z
+    ∙ sub-eq (R z - (R z - velocityMost * h)) (L z - (L z - velocityMost * h)) 0 0 (omega (arith, e))
+    ∙ sym (pos-sub 0)
+
+-- between two dry sides nothing crosses
+pub dry-exchange : (t X : ℕ) (l r : Side) → l .depth ≡ 0 → r .depth ≡ 0 → ExchangeOf t X l r 0 0 0 0 0
+unfolding leftDepth rightDepth momentumSum
+dry-exchange t X l r dl dr =
+    let hl : reducedDepth (l .depth) (l .bed) (r .bed) ≡ 0 = omega (arith, reduced-depth-le (l .depth) (l .bed) (r .bed), dl) in
+    let hr : reducedDepth (r .depth) (r .bed) (l .bed) ≡ 0 = omega (arith, reduced-depth-le (r .depth) (r .bed) (l .bed), dr) in
+    let water : (h : ℕ) (u : ℤ) → h ≡ 0 → waterFlux t X h u ≡ 0 = λ h u e. ap (λ (h : ℕ). waterFlux t X h u) e ∙ water-flux-dry t X u in
+    let push : (h : ℕ) (u : ℤ) → h ≡ 0 → momentumFlux t X h u ≡ 0 = λ h u e. ap (λ (h : ℕ). momentumFlux t X h u) e ∙ momentum-flux-dry t X u in
+    record {
+      rightward-is = sym (water _ (l .velocity) hl);
+      leftward-is = sym (water _ (negℤ (r .velocity)) hr);
+      momentum-is = omega (arith, push _ (l .velocity) hl, push _ (negℤ (r .velocity)) hr);
+      lost-left-is = omega (arith, ap (λ (h : ℕ). stillThrust t X h) (dl ∙ sym hl));
+      lost-right-is = omega (arith, ap (λ (h : ℕ). stillThrust t X h) (dr ∙ sym hr));
     }
 
 -- ---- what the sweep carries from an interface to the next

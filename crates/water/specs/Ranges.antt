@@ -33,6 +33,8 @@ pub record SideStateFits (c : SideState) : Type 0 where
   pub wave : c .wave ≡ waveSpeed (c .depth)
   pub right-most : c .right ≤ velocityMost
   pub left-most : c .left ≤ velocityMost
+  -- one of the two parts is 0
+  pub speed : natAbs (sideOf c .velocity) ≡ c .right + c .left
 
 -- what crosses an interface between l and r: both W, P, and what the bed takes of either side's S
 pub record ExchangeOf (t X : ℕ) (l r : Side) (rightward leftward momentum lostLeft lostRight : ℕ) : Type 0 where

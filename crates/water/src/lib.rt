@@ -2,12 +2,12 @@
 ghost use mathlib.Core.Path.{_≡_};
 ghost use Prim.Native.Nat.{_*_, _-_, _≤_, _<_};
 ghost use lib.IntN.{pos, _+ℤ_, _-ℤ_, natAbs, subℕ};
-ghost use Rattle.flux.specs.Limits.{bedMost, depthMost, velocityMost};
+ghost use Rattle.flux.specs.Limits.{bedMost, depthMost, velocityMost, timeStepMost};
 ghost use Rattle.flux.specs.Crossing.{stillThrust};
 ghost use Rattle.flux.specs.Ranges.{Mesh, Flow};
 ghost use Rattle.flux.specs.Velocity.{velocity};
-ghost use Rattle.friction.specs.Friction.{slowedBy};
-ghost use Rattle.friction.specs.Ranges.{conveyanceSquaredMost, dragMost};
+ghost use Rattle.friction.specs.Friction.{drag, slowedBy};
+ghost use Rattle.friction.specs.Ranges.{conveyanceSquaredMost, pushedMost};
 ghost use Rattle.water.specs.Ranges.{sideOf, SideStateFits, ExchangeOf, ExchangeFits, thrustMost};
 ghost use Rattle.water.specs.Sides.{boundarySide};
 ghost use Rattle.water.specs.Water.{nearest};
@@ -18,11 +18,6 @@ use flux::interface::reduced_wave;
 use flux::velocity::velocity_parts;
 use flux::wave::wave_speed;
 use friction::slow;
-use numbers::signed::Parts;
-use numbers::signed::excess;
-use numbers::signed::joined;
-use numbers::signed::left_part;
-use numbers::signed::right_part;
 use reach::boundary::Boundary;
 use reach::boundary::BoundaryPlace;
 use reach::boundary::OPEN;
@@ -97,6 +92,15 @@ pub fn exchange_between(t: u64, x: u64, l: SideState, r: SideState) -> Exchange
     requires { ⌜ Mesh t x × (SideStateFits l × SideStateFits r) ⌝ }
     ensures { λ c. ⌜ ExchangeOf t x (sideOf l) (sideOf r) (c .rightward) (c .leftward) (c .momentum) (c .«lost_left») (c .«lost_right») × ExchangeFits c ⌝ }
 {
+    if l.depth + r.depth == 0 {
+        return Exchange {
+            rightward: 0,
+            leftward: 0,
+            momentum: 0,
+            lost_left: 0,
+            lost_right: 0,
+        };
+    }
     let hl = reduced_depth(l.depth, l.bed, r.bed);
     let hr = reduced_depth(r.depth, r.bed, l.bed);
     let al = reduced_wave(hl, l.depth, l.wave);
@@ -130,26 +134,43 @@ pub fn exchange_level(t: u64, x: u64, l: SideState, r: SideState) -> Exchange
     }
 }
 
-// right − left, moved to the nearest value in −most..most
-pub fn nearest_in(right: u64, left: u64, most: u64) -> i64
+// z, moved to the nearest value in −most..most
+pub fn nearest_to(z: i64, most: u64) -> i64
     requires { ⌜ most < 9_223_372_036_854_775_808 ⌝ }
-    ensures { λ r. ⌜ r ≡ nearest most (subℕ right left) ⌝ }
+    ensures { λ r. ⌜ r ≡ nearest most z ⌝ }
 {
-    let r = excess(right, left);
-    let l = excess(left, right);
-    joined(r - excess(r, most), l - excess(l, most))
+    let end = most as i64;
+    if end <= z {
+        return end;
+    }
+    if z <= -end {
+        return -end;
+    }
+    z
 }
 
-// q with what is gained and lost of it, after friction by D and E, moved to the range of a depth h
-pub fn discharge_after(f: u64, d: u64, e: u64, q: i64, gained: u64, lost: u64, h: u64) -> i64
-    requires { ⌜ (d ≤ conveyanceSquaredMost) × (e ≤ dragMost) ⌝ }
-    requires { ⌜ (natAbs q ≤ velocityMost * depthMost) × ((gained ≤ 2 * thrustMost) × ((lost ≤ 2 * thrustMost) × (h ≤ 2_000_000_000))) ⌝ }
-    ensures { λ r. ⌜ r ≡ nearest (velocityMost * h) (slowedBy f d e (q +ℤ pos gained -ℤ pos lost)) ⌝ }
+// q with what is gained and lost of it
+fn pushed_by(q: i64, gained: u64, lost: u64) -> i64
+    requires { ⌜ (natAbs q ≤ velocityMost * depthMost) × ((gained ≤ 2 * thrustMost) × (lost ≤ 2 * thrustMost)) ⌝ }
+    ensures { λ r. ⌜ (r ≡ q +ℤ pos gained -ℤ pos lost) × (natAbs r ≤ pushedMost) ⌝ }
 {
-    let pushed = Parts {
-        right: right_part(q) + gained,
-        left: left_part(q) + lost,
-    };
-    let slower = slow(f, d, e, pushed);
-    nearest_in(slower.right, slower.left, 8_000 * h)
+    q + gained as i64 - lost as i64
+}
+
+// q with what is gained and lost of it, after friction by D and the speed v before, moved to the range of a depth h
+pub fn discharge_after(
+    f: u64,
+    d: u64,
+    t: u64,
+    v: u64,
+    q: i64,
+    gained: u64,
+    lost: u64,
+    h: u64,
+) -> i64
+    requires { ⌜ (d ≤ conveyanceSquaredMost) × ((t ≤ timeStepMost) × (v ≤ velocityMost)) ⌝ }
+    requires { ⌜ (natAbs q ≤ velocityMost * depthMost) × ((gained ≤ 2 * thrustMost) × ((lost ≤ 2 * thrustMost) × (h ≤ 2_000_000_000))) ⌝ }
+    ensures { λ r. ⌜ r ≡ nearest (velocityMost * h) (slowedBy f d (drag t v) (q +ℤ pos gained -ℤ pos lost)) ⌝ }
+{
+    nearest_to(slow(f, d, t, v, pushed_by(q, gained, lost)), 8_000 * h)
 }

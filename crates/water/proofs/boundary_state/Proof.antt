@@ -1,9 +1,10 @@
 -- `water::boundary_state` meets its contract. Assumes nothing.
 use mathlib.Core.Path.{_≡_, refl, sym, _∙_}
 use Prim.Native.Nat.{ℕ}
+use native.Mathlib.Omega.{arith}
 use lib.IntN.{ℤ, negℤ, subℕ}
 use mir.Facts.{toZ-ofZ}
-use Rattle.numbers.proofs.SignedLaws.{sub-neg}
+use Rattle.numbers.proofs.SignedLaws.{abs-sub, sub-neg}
 use Rattle.flux.specs.Interface.{Side, mirrored}
 use Rattle.water.specs.Ranges.{sideOf, SideStateFits}
 use Rattle.water.specs.declared.SideState.{SideState}
@@ -17,7 +18,15 @@ abbrev turned : SideState → SideState
 turned c = record { bed = c .bed; depth = c .depth; wave = c .wave; right = c .left; left = c .right }
 
 turned-fits : (c : SideState) → SideStateFits c → SideStateFits (turned c)
-turned-fits c f = record { bed = f .bed; depth = f .depth; wave = f .wave; right-most = f .left-most; left-most = f .right-most }
+turned-fits c f =
+    record {
+      bed = f .bed;
+      depth = f .depth;
+      wave = f .wave;
+      right-most = f .left-most;
+      left-most = f .right-most;
+      speed = omega (arith, abs-sub (c .left) (c .right), abs-sub (c .right) (c .left), f .speed);
+    }
 
 turned-side : (c : SideState) → sideOf (turned c) ≡ mirrored (sideOf c)
 unfolding mirrored

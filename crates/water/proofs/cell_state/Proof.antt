@@ -1,10 +1,12 @@
 -- `water::cell_state` meets its contract. Assumes nothing.
 use mathlib.Core.Path.{_≡_, refl, sym, ap₂, _∙_}
-use Prim.Native.Nat.{ℕ}
+use mathlib.Core.Logic.{⊎-elim}
+use Prim.Native.Nat.{ℕ, _+_}
 use native.Mathlib.Omega.{arith}
-use lib.IntN.{ℤ, subℕ}
+use lib.IntN.{ℤ, negℤ, subℕ, natAbs}
 use mir.Facts.{toZ-ofZ}
-use Rattle.numbers.proofs.SignedLaws.{abs-parts, two-parts}
+use Rattle.numbers.specs.Signed.{positive}
+use Rattle.numbers.proofs.SignedLaws.{abs-parts, abs-sub, one-part, two-parts}
 use Rattle.flux.specs.Velocity.{velocity}
 use Rattle.flux.specs.Interface.{Side}
 use Rattle.flux.proofs.VelocityLaws.{velocity-most}
@@ -14,6 +16,9 @@ use Rattle.water.proofs.cell_state.Tie as tie
 
 side-at : (z : ℤ) (h : ℕ) {u v : ℤ} → u ≡ v → _≡_ {A = Side} (record { bed = z; depth = h; velocity = u }) (record { bed = z; depth = h; velocity = v })
 side-at z h e = rw e refl
+
+size : (u : ℤ) {r l : ℕ} → r ≡ positive u → l ≡ positive (negℤ u) → natAbs (subℕ r l) ≡ r + l
+size u {r} {l} e f = ⊎-elim (λ z. omega (arith, abs-sub r l, e, f, z)) (λ z. omega (arith, abs-sub r l, e, f, z)) (one-part u)
 
 velocity-parts-requires : tie.Need-velocity-parts-requires
 velocity-parts-requires c κs = search needs
@@ -35,6 +40,7 @@ returns c =
         wave = c .wave-speed .ensures;
         right-most = omega arith;
         left-most = omega arith;
+        speed = size u (v .0) (v .1);
       },
       side-at (s .args .z) (s .args .h) (ap₂ subℕ (v .0) (v .1) ∙ sym (two-parts u)),
     )

@@ -13,13 +13,13 @@ use Rattle.flux.specs.Wave.{waveSpeed}
 use Rattle.flux.proofs.CrossingLaws.{momentum-flux-small}
 use Rattle.flux.proofs.InterfaceLaws.{reduced-depth-le}
 use Rattle.water.specs.Ranges.{sideOf, ExchangeOf}
-use Rattle.water.proofs.WaterLaws.{crossing-fits}
+use Rattle.water.proofs.WaterLaws.{crossing-fits, dry-exchange}
 use borrow.Author.Needs.{needs}
 use Rattle.water.proofs.exchange_between.Statement.{statement}
 use Rattle.water.proofs.exchange_between.Tie as tie
 
 abbrev entry : tie.After-reduced-depth → tie.Start
-entry c = c .before .before .before
+entry c = c .before .before .before .before .before .before
 
 left-is : (c : tie.After-reduced-depth) →
     let s = entry c .args in c .reduced-depth .result ≡ reducedDepth (s .l .depth) (s .l .bed) (s .r .bed)
@@ -44,6 +44,17 @@ left-deep c = le-trans (left-le c) (entry c .pre .1 .0 .depth)
 
 right-deep : (c : tie.After-reduced-depth2) → c .reduced-depth2 .result ≤ 4_000_000
 right-deep c = le-trans (right-le c) (entry (c .before .before .before) .pre .1 .1 .depth)
+
+-- both sides are dry
+returns : tie.Need-returns
+returns c =
+    let s = c .before .before .before in
+    let e = c .if1 .taken in
+    let none = dry-exchange (s .args .t) (s .args .x) (sideOf (s .args .l)) (sideOf (s .args .r)) (omega (arith, e)) (omega (arith, e)) in
+    (none, crossing-fits _ (s .pre .0) (s .pre .1 .0) (s .pre .1 .1) none)
+
+add-if1 : tie.Need-add-if1
+add-if1 c = search needs
 
 reduced-depth-requires : tie.Need-reduced-depth-requires
 reduced-depth-requires c κs = search needs
@@ -109,9 +120,9 @@ thrust-lost-requires-2 c κs =
       ),
     )
 
-returns : tie.Need-returns
+returns-2 : tie.Need-returns-2
 unfolding momentumSum leftDepth rightDepth
-returns c =
+returns-2 c =
     let k = c .before .before .before .before .before .before in
     let s = entry (k .before .before .before .before .before) .args in
     let g = entry (k .before .before .before .before .before) .pre in
@@ -136,6 +147,8 @@ pub exchange-between-spec : {M : Type 1} → statement M
 exchange-between-spec =
     tie.close
     (tie.spec
+    add-if1
+    returns
     reduced-depth-requires
     reduced-depth-requires-2
     reduced-wave-requires
@@ -145,4 +158,4 @@ exchange-between-spec =
     add-t11
     thrust-lost-requires
     thrust-lost-requires-2
-    returns)
+    returns-2)
