@@ -5,7 +5,7 @@ ghost use lib.IntN.{natAbs};
 ghost use Rattle.flux.specs.Limits.{bedMost, depthMost};
 ghost use Rattle.flux.specs.Wave.{waveSpeed};
 ghost use Rattle.flux.specs.Interface.{reducedDepth};
-use super::wave::wave_speed;
+use super::wave::wave_near;
 use numbers::signed::excess;
 use numbers::signed::right_part;
 
@@ -17,10 +17,16 @@ pub fn reduced_depth(h: u64, z: i64, beside: i64) -> u64
     excess(h, right_part(beside - z))
 }
 
-// a(h*), where a is the wave speed of the whole depth h: no search where nothing is taken off
+// a(h*), where a is the wave speed of the whole depth h: no search where nothing is taken off, or all
 pub fn reduced_wave(reduced: u64, h: u64, a: u64) -> u64
-    requires { ⌜ (reduced ≤ depthMost) × (a ≡ waveSpeed h) ⌝ }
+    requires { ⌜ (reduced ≤ h) × ((h ≤ depthMost) × (a ≡ waveSpeed h)) ⌝ }
     ensures { λ r. ⌜ r ≡ waveSpeed reduced ⌝ }
 {
-    if reduced == h { a } else { wave_speed(reduced) }
+    if reduced == h {
+        return a;
+    }
+    if reduced == 0 {
+        return 0;
+    }
+    wave_near(reduced, a)
 }

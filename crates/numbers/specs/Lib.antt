@@ -4,3 +4,4 @@ pub mod Search
 pub mod Root
 pub mod Shares
 pub mod Signed
+pub mod Table

@@ -2,6 +2,7 @@
 ghost use mathlib.Core.Path.{_≡_};
 ghost use Prim.Native.Nat.{_+_, _*_, _≤_, _<_};
 ghost use Rattle.numbers.specs.Root.{squareRootCeil};
+ghost use Rattle.numbers.specs.Table.{RootTable};
 
 // floor(4,096·√k) for k = 0..64
 const ROOTS: [u16; 65] = [
@@ -72,6 +73,13 @@ const ROOTS: [u16; 65] = [
     32768,
 ];
 
+// The table, taken once for many roots: a constant array is built anew wherever it is named
+pub fn root_table() -> [u16; 65]
+    ensures { λ r. ⌜ RootTable r ⌝ }
+{
+    ROOTS
+}
+
 fn wide(x: u16) -> u64
     ensures { λ r. ⌜ r ≡ x ⌝ }
 {
@@ -79,42 +87,49 @@ fn wide(x: u16) -> u64
 }
 
 // 4,096·span times the point at rest/span of the chord of the root from k to k + 1. A chord of the root lies below it.
-fn chord(k: usize, rest: u64, span: u64) -> u64
-    requires { ⌜ (k < 64) × ((rest ≤ span) × (span ≤ 1_048_576)) ⌝ }
+fn chord(k: usize, rest: u64, span: u64, roots: &[u16; 65]) -> u64
+    requires { ⌜ ((k < 64) × ((rest ≤ span) × (span ≤ 1_048_576))) × RootTable (now roots) ⌝ }
     ensures { λ r. ⌜ r * r ≤ span * (16_777_216 * (k * span + rest)) ⌝ }
 {
-    // one copy: a constant array is built anew wherever it is named
-    let roots = ROOTS;
     (span - rest) * wide(roots[k]) + rest * wide(roots[k + 1])
 }
 
 // A number at most the root of x, and for every wave speed of the model at most 4 below it.
-// The four spans are squares, so that each quotient is a shift.
-fn below_root(x: u64) -> u64
-    requires { ⌜ x < 67_108_864 ⌝ }
+// The four spans are squares, so that each quotient is a shift. The deepest water is asked for first.
+fn below_root(x: u64, roots: &[u16; 65]) -> u64
+    requires { ⌜ (x < 67_108_864) × RootTable (now roots) ⌝ }
     ensures { λ r. ⌜ r * r ≤ x ⌝ }
 {
-    if x < 16_384 {
-        return chord((x / 256) as usize, x % 256, 256) / 65_536;
+    if 16_777_216 <= x {
+        return chord((x / 1_048_576) as usize, x % 1_048_576, 1_048_576, roots) / 4_194_304;
     }
-    if x < 1_048_576 {
-        return chord((x / 16_384) as usize, x % 16_384, 16_384) / 524_288;
+    if 1_048_576 <= x {
+        return chord((x / 262_144) as usize, x % 262_144, 262_144, roots) / 2_097_152;
     }
-    if x < 16_777_216 {
-        return chord((x / 262_144) as usize, x % 262_144, 262_144) / 2_097_152;
+    if 16_384 <= x {
+        return chord((x / 16_384) as usize, x % 16_384, 16_384, roots) / 524_288;
     }
-    chord((x / 1_048_576) as usize, x % 1_048_576, 1_048_576) / 4_194_304
+    chord((x / 256) as usize, x % 256, 256, roots) / 65_536
+}
+
+// One raise, by a choice and not a branch: most wave speeds need none or one.
+fn raised(x: u64, a: u64) -> u64
+    requires { ⌜ (x ≤ 67_108_864) × (a * a < x) ⌝ }
+    ensures { λ r. ⌜ r * r < x ⌝ }
+{
+    let next = a + 1;
+    if next * next < x { next } else { a }
 }
 
 // The least whole number whose square is at least x: raised from below to the first that need not be raised.
-pub fn square_root_ceil(x: u64) -> u64
-    requires { ⌜ x ≤ 67_108_864 ⌝ }
+pub fn square_root_ceil(x: u64, roots: &[u16; 65]) -> u64
+    requires { ⌜ (x ≤ 67_108_864) × RootTable (now roots) ⌝ }
     ensures { λ r. ⌜ r ≡ squareRootCeil x ⌝ }
 {
     if x == 0 {
         return 0;
     }
-    let mut a = below_root(x - 1);
+    let mut a = raised(x, below_root(x - 1, roots));
     let root = loop {
         let next = a + 1;
         if x <= next * next {

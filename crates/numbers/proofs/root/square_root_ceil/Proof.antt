@@ -8,10 +8,10 @@ use Rattle.numbers.proofs.root.square_root_ceil.Statement.{statement}
 use Rattle.numbers.proofs.root.square_root_ceil.Tie as tie
 
 abbrev Inv-loop : tie.InvT-loop
-Inv-loop x a₀ a = a * a < x
+Inv-loop x roots a₀ a = a * a < x
 
 abbrev μ-loop : tie.MeasureT-loop
-μ-loop x a₀ a = x - a
+μ-loop x roots a₀ a = x - a
 
 -- of 0
 returns : tie.Need-returns Inv-loop μ-loop
@@ -23,8 +23,11 @@ sub-below-root c = search needs
 below-root-requires : tie.Need-below-root-requires Inv-loop μ-loop
 below-root-requires c κs = search needs
 
+raised-requires : tie.Need-raised-requires Inv-loop μ-loop
+raised-requires c κs = omega (arith, c .below-root .ensures)
+
 loop-holds : tie.Need-loop-holds Inv-loop μ-loop
-loop-holds c = omega (arith, c .below-root .ensures)
+loop-holds c = c .raised .ensures
 
 add-next : tie.Need-add-next Inv-loop μ-loop
 add-next c = omega (arith, square-lt (c .loop .a) 8_192 (omega arith))
@@ -52,6 +55,7 @@ square-root-ceil-spec =
     returns
     sub-below-root
     below-root-requires
+    raised-requires
     loop-holds
     add-next
     mul-if2
