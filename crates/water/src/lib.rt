@@ -2,6 +2,7 @@
 ghost use mathlib.Core.Path.{_≡_};
 ghost use Prim.Native.Nat.{_*_, _-_, _≤_, _<_};
 ghost use lib.IntN.{pos, _+ℤ_, _-ℤ_, natAbs, subℕ};
+ghost use Rattle.numbers.specs.Table.{RootTable};
 ghost use Rattle.flux.specs.Limits.{bedMost, depthMost, velocityMost, timeStepMost};
 ghost use Rattle.flux.specs.Crossing.{stillThrust};
 ghost use Rattle.flux.specs.Ranges.{Mesh, Flow};
@@ -32,23 +33,25 @@ pub struct SideState {
     pub left: u64,
 }
 
-pub fn cell_state(z: i64, h: u64, q: i64) -> SideState
+pub fn cell_state(z: i64, h: u64, q: i64, roots: &[u16; 65]) -> SideState
     requires { ⌜ (natAbs z ≤ bedMost) × ((h ≤ depthMost) × (natAbs q ≤ velocityMost * h)) ⌝ }
+    requires { ⌜ RootTable (now roots) ⌝ }
     ensures { λ r. ⌜ SideStateFits r × (sideOf r ≡ record { bed = z; depth = h; velocity = velocity h q }) ⌝ }
 {
     let u = velocity_parts(h, q);
     SideState {
         bed: z,
         depth: h,
-        wave: wave_speed(h),
+        wave: wave_speed(h, roots),
         right: u.right,
         left: u.left,
     }
 }
 
 // What a boundary at the place p shows beside the cell c
-pub fn boundary_state(p: BoundaryPlace, e: Boundary, c: SideState) -> SideState
+pub fn boundary_state(p: BoundaryPlace, e: Boundary, c: SideState, roots: &[u16; 65]) -> SideState
     requires { ⌜ SideStateFits c × ((e .depth ≤ depthMost) × (natAbs (e .discharge) ≤ velocityMost * e .depth)) ⌝ }
+    requires { ⌜ RootTable (now roots) ⌝ }
     ensures { λ r. ⌜ SideStateFits r × (sideOf r ≡ boundarySide p e (sideOf c)) ⌝ }
 {
     if e.kind == WALL {
@@ -63,7 +66,7 @@ pub fn boundary_state(p: BoundaryPlace, e: Boundary, c: SideState) -> SideState
     if e.kind == OPEN {
         return c;
     }
-    cell_state(c.bed, e.depth, e.discharge)
+    cell_state(c.bed, e.depth, e.discharge, roots)
 }
 
 // S of the whole depth less S of the reduced depth: no quotient where nothing is taken off

@@ -36,19 +36,19 @@ returns : tie.Need-returns
 returns c =
     let s = c .before .before .before in
     rw (toZ-ofZ (record { sfits = c .struct-told .given .0 .1 })) (
-      turned-fits (s .args .c) (s .pre .0),
+      turned-fits (s .args .c) (s .pre .0 .0),
       turned-side (s .args .c) ∙ sym (boundary-wall (s .args .p) (s .args .e) (sideOf (s .args .c)) (c .before .if1 .taken)),
     )
 
 returns-2 : tie.Need-returns-2
 returns-2 c =
     let s = c .before .before .before .before in
-    (s .pre .0, sym (boundary-open (s .args .p) (s .args .e) (sideOf (s .args .c)) (c .before .before .if1 .left) (c .if2 .taken)))
+    (s .pre .0 .0, sym (boundary-open (s .args .p) (s .args .e) (sideOf (s .args .c)) (c .before .before .if1 .left) (c .if2 .taken)))
 
 cell-state-requires : tie.Need-cell-state-requires
 cell-state-requires c κs =
     let s = c .before .before .before .before .before .before in
-    rw (toZ-ofZ (record { sfits = c .before .struct-told2 .given .0 .1 }), toZ-ofZ (record { sfits = c .struct-told3 .given .1 .1 .1 .1 .0 .1 })) (s .pre .0 .bed, s .pre .1)
+    rw (toZ-ofZ (record { sfits = c .before .struct-told2 .given .0 .1 }), toZ-ofZ (record { sfits = c .struct-told3 .given .1 .1 .1 .1 .0 .1 })) ((s .pre .0 .0 .bed, s .pre .0 .1), s .pre .1)
 
 returns-3 : tie.Need-returns-3
 returns-3 c =

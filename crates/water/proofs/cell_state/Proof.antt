@@ -31,12 +31,12 @@ returns c =
     let s = c .before .before in
     let u = velocity (s .args .h) (s .args .q) in
     let v = rw (toZ-ofZ (s .fits .q)) at (c .before .velocity-parts .ensures) in
-    let m = velocity-most 8_000 (s .args .h) (s .args .q) (s .pre .1 .1) in
+    let m = velocity-most 8_000 (s .args .h) (s .args .q) (s .pre .0 .1 .1) in
     let a = abs-parts u in
     rw (toZ-ofZ (s .fits .z)) (
       record {
-        bed = s .pre .0;
-        depth = s .pre .1 .0;
+        bed = s .pre .0 .0;
+        depth = s .pre .0 .1 .0;
         wave = c .wave-speed .ensures;
         right-most = omega arith;
         left-most = omega arith;

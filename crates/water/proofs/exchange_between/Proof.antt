@@ -65,12 +65,12 @@ reduced-depth-requires-2 c κs = search needs
 reduced-wave-requires : tie.Need-reduced-wave-requires
 reduced-wave-requires c κs =
     let s = entry (c .before .before .before) in
-    (left-deep (c .before .before .before), s .pre .1 .0 .wave)
+    (left-le (c .before .before .before), (s .pre .1 .0 .depth, s .pre .1 .0 .wave))
 
 reduced-wave-requires-2 : tie.Need-reduced-wave-requires-2
 reduced-wave-requires-2 c κs =
     let s = entry (c .before .before .before .before) in
-    (right-deep (c .before), s .pre .1 .1 .wave)
+    (right-le (c .before), (s .pre .1 .1 .depth, s .pre .1 .1 .wave))
 
 -- either side at its reduced depth
 left-flow : (c : tie.After-reduced-wave2) → let s = entry (c .before .before .before .before .before) .args in Flow (c .before .before .before .before .before .reduced-depth .result) (c .before .reduced-wave .result) (s .l .right) (s .l .left)
