@@ -6,6 +6,7 @@ ghost use Prim.Native.Nat.{ℕ, _+_, _-_, _*_, _≤_, _<_, min};
 ghost use lib.Dec.{ltb};
 ghost use lib.IntN.{pos, _+ℤ_, _-ℤ_, natAbs, subℕ};
 ghost use lib.ListN.{length, getD};
+ghost use Rattle.numbers.specs.Table.{RootTable};
 ghost use Rattle.flux.specs.Limits.{depthMost, velocityMost, timeStepMost};
 ghost use Rattle.flux.specs.Ranges.{Mesh};
 ghost use Rattle.friction.specs.Friction.{drag, slowedBy};
@@ -18,6 +19,7 @@ ghost use Rattle.water.specs.Sides.{boundarySide};
 ghost use Rattle.water.specs.Water.{nearest};
 use friction::conveyance_squared;
 use friction::table::four_thirds;
+use numbers::root::root_table;
 use numbers::signed::excess;
 use numbers::signed::joined;
 use reach::boundary::Boundary;
@@ -58,16 +60,18 @@ fn right_side(
     boundary: Boundary,
     before: SideState,
     i: usize,
+    roots: &[u16; 65],
 ) -> SideState
     requires { ⌜ (length (now depth) ≡ length (now bed)) × (length (now discharge) ≡ length (now bed)) ⌝ }
     requires { ⌜ (i < length (now bed) → InRange (getD (now bed) i (pos 0)) (getD (now depth) i 0) (getD (now discharge) i (pos 0))) ⌝ }
     requires { ⌜ SideStateFits before × ((boundary .depth ≤ depthMost) × (natAbs (boundary .discharge) ≤ velocityMost * boundary .depth)) ⌝ }
+    requires { ⌜ RootTable (now roots) ⌝ }
     ensures { λ r. ⌜ SideStateFits r × (sideOf r ≡ cond (ltb i (length (now (bed .entry)))) (record { bed = getD (now (bed .entry)) i (pos 0); depth = getD (now (depth .entry)) i 0; velocity = velocity (getD (now (depth .entry)) i 0) (getD (now (discharge .entry)) i (pos 0)) }) (boundarySide Right boundary (sideOf before))) ⌝ }
 {
     if i < bed.len() {
-        return cell_state(bed[i], depth[i], discharge[i]);
+        return cell_state(bed[i], depth[i], discharge[i], roots);
     }
-    boundary_state(BoundaryPlace::Right, boundary, before)
+    boundary_state(BoundaryPlace::Right, boundary, before, roots)
 }
 
 // N of a crossing
@@ -168,15 +172,16 @@ pub fn sweep(
     ensures { λ _. ⌜ ((i : ℕ) → length (now (bed .entry)) ≤ i → getD (now (given .exit)) i 0 ≡ getD (now (given .entry)) i 0) ⌝ }
 {
     let n = bed.len();
-    let mut cell = cell_state(bed[0], depth[0], discharge[0]);
-    let beyond = boundary_state(BoundaryPlace::Left, boundaries[0], cell);
+    let roots = root_table();
+    let mut cell = cell_state(bed[0], depth[0], discharge[0], &roots);
+    let beyond = boundary_state(BoundaryPlace::Left, boundaries[0], cell, &roots);
     let mut met = still_meets(still_meets(true, t, x, beyond), t, x, cell);
     let mut left = exchange_level(t, x, beyond, cell);
     net[0] = net_of(left);
-    let roots = four_thirds();
+    let powers = four_thirds();
     let mut i = 0;
     while i < n {
-        let next = right_side(bed, depth, discharge, boundaries[1], cell, i + 1);
+        let next = right_side(bed, depth, discharge, boundaries[1], cell, i + 1, &roots);
         let right = exchange_between(t, x, cell, next);
         let taken = granted_of(depth[i], left, right, given[i]);
         let deep = depth_after(depth[i], left, right, taken);
@@ -184,7 +189,7 @@ pub fn sweep(
         net[i + 1] = net_of(right);
         given[i] = taken;
         new_depth[i] = deep;
-        let d = conveyance_squared(f, deep, &roots);
+        let d = conveyance_squared(f, deep, &powers);
         new_discharge[i] = momentum_after(f, d, t, cell, discharge[i], left, right, deep);
         cell = next;
         left = right;

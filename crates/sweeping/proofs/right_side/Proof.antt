@@ -29,7 +29,7 @@ shared-slice-copy-out-cell-state-2 c = search needs
 cell-state-requires : tie.Need-cell-state-requires
 cell-state-requires c κs =
     let s = c .before .before .before .before .before in
-    rw (toZ-ofZ (sfits-of (c .before .before .cell-state-arg .given)), toZ-ofZ (sfits-of (c .cell-state-arg2 .given))) (s .pre .1 .0 (c .before .before .before .if1 .taken))
+    rw (toZ-ofZ (sfits-of (c .before .before .cell-state-arg .given)), toZ-ofZ (sfits-of (c .cell-state-arg2 .given))) (s .pre .1 .0 (c .before .before .before .if1 .taken), s .pre .1 .1 .1)
 
 returns : tie.Need-returns
 returns c =

@@ -27,7 +27,7 @@ use Rattle.sweeping.proofs.sweep.Statement.{statement}
 use Rattle.sweeping.proofs.sweep.Tie as tie
 
 abbrev Inv-loop : tie.InvT-loop
-Inv-loop t f x z h q net₀ given₀ depth₀ discharge₀ boundaries n cell₀ met₀ left₀ roots i₀ net given depth discharge cell met left i =
+Inv-loop t f x z h q net₀ given₀ depth₀ discharge₀ boundaries n roots cell₀ met₀ left₀ powers i₀ net given depth discharge cell met left i =
     let s = flowOf z h q x boundaries in
     (i ≤ n)
     × Written (pos 0) (netAt s t) net₀ (i + 1) net
@@ -41,17 +41,20 @@ Inv-loop t f x z h q net₀ given₀ depth₀ discharge₀ boundaries n cell₀ 
     × Written 0 (λ k. granted s t (getD given₀ k 0) k) given₀ i given
 
 abbrev μ-loop : tie.MeasureT-loop
-μ-loop t f x z h q net₀ given₀ depth₀ discharge₀ boundaries n cell₀ met₀ left₀ roots i₀ net given depth discharge cell met left i = n - i
+μ-loop t f x z h q net₀ given₀ depth₀ discharge₀ boundaries n roots cell₀ met₀ left₀ powers i₀ net given depth discharge cell met left i = n - i
 
 abbrev entry : tie.After-net-of Inv-loop μ-loop → tie.Start Inv-loop μ-loop
-entry c = c .before .before .before .before .before .before .before .before .before .before .before .before .before
+entry c = c .before .before .before .before .before .before .before .before .before .before .before .before .before .before .before .before
+
+abbrev table : tie.After-net-of Inv-loop μ-loop → tie.After-root-table Inv-loop μ-loop
+table c = c .before .before .before .before .before .before .before .before .before .before .before .before
 
 abbrev start : tie.In-loop Inv-loop μ-loop → tie.Start Inv-loop μ-loop
 start c = entry (c .before .before .before)
 
 -- the turn of an interface, of what a cell gives, and of what it is left with
 abbrev turn : tie.After-exchange-between Inv-loop μ-loop → tie.In-loop Inv-loop μ-loop
-turn c = c .before .before .before
+turn c = c .before .before .before .before
 
 abbrev gives : tie.After-granted-of Inv-loop μ-loop → tie.After-exchange-between Inv-loop μ-loop
 gives c = c .before .before .before
@@ -67,13 +70,13 @@ abbrev flow : tie.Start Inv-loop μ-loop → Reach
 flow s = flowOf (now (s .args .bed)) (now (s .args .depth)) (now (s .args .discharge)) (s .args .x) (s .args .t7)
 
 -- the first cell and the left boundary beside it
-first : (c : tie.After-cell-state Inv-loop μ-loop) → SideStateFits (c .cell-state .result) × (sideOf (c .cell-state .result) ≡ cellSide (flow (c .before .before .before .before .before .before .before)) 0)
+first : (c : tie.After-cell-state Inv-loop μ-loop) → SideStateFits (c .cell-state .result) × (sideOf (c .cell-state .result) ≡ cellSide (flow (c .before .before .before .before .before .before .before .before .before)) 0)
 unfolding cellSide
-first c = rw (toZ-ofZ (sfits-of (c .before .before .before .cell-state-arg .given)), toZ-ofZ (sfits-of (c .before .cell-state-arg2 .given))) at (c .cell-state .ensures)
+first c = rw (toZ-ofZ (sfits-of (c .before .before .before .before .cell-state-arg .given)), toZ-ofZ (sfits-of (c .before .before .cell-state-arg2 .given))) at (c .cell-state .ensures)
 
-beyond : (c : tie.After-boundary-state Inv-loop μ-loop) → SideStateFits (c .boundary-state .result) × (sideOf (c .boundary-state .result) ≡ leftSide (flow (c .before .before .before .before .before .before .before .before .before)) 0)
+beyond : (c : tie.After-boundary-state Inv-loop μ-loop) → SideStateFits (c .boundary-state .result) × (sideOf (c .boundary-state .result) ≡ leftSide (flow (c .before .before .before .before .before .before .before .before .before .before .before .before)) 0)
 unfolding leftSide
-beyond c = (c .boundary-state .ensures .0, c .boundary-state .ensures .1 ∙ ap (boundarySide _ _) (first (c .before .before) .1))
+beyond c = (c .boundary-state .ensures .0, c .boundary-state .ensures .1 ∙ ap (boundarySide _ _) (first (c .before .before .before) .1))
 
 -- the cell at hand and what stands at its right
 index : (c : tie.In-loop Inv-loop μ-loop) → (c .before .loop .i < cells (flow (start c))) × (c .before .loop .i < 1_000_000)
@@ -91,24 +94,27 @@ here : (c : tie.In-loop Inv-loop μ-loop) → sideOf (c .before .loop .cell) ≡
 here c = c .before .loop .inv .5 ∙ right-side-cell (flow (start c)) (c .before .loop .i) (index c .0)
 
 next : (c : tie.After-right-side Inv-loop μ-loop) →
-    let s = flow (start (c .before .before)) in
-    SideStateFits (c .right-side .result) × (sideOf (c .right-side .result) ≡ rightSide s (c .before .before .before .loop .i + 1))
+    let s = flow (start (c .before .before .before)) in
+    SideStateFits (c .right-side .result) × (sideOf (c .right-side .result) ≡ rightSide s (c .before .before .before .before .loop .i + 1))
 unfolding cellSide
 next c =
-    let k = c .before .before in
+    let k = c .before .before .before in
     let e = c .right-side .ensures in
     (e .0, e .1 ∙ right-side-next (flow (start k)) (k .before .loop .i) (sideOf (k .before .loop .cell)) (index k .0) (here k))
 
 crossing : (c : tie.After-exchange-between Inv-loop μ-loop) →
-    let k = c .before .before .before in
+    let k = turn c in
     let s = flow (start k) in
     let i = k .before .loop .i in
     let r = c .exchange-between .result in
     ExchangeOf (start k .args .t) (start k .args .x) (leftSide s (i + 1)) (rightSide s (i + 1)) (r .rightward) (r .leftward) (r .momentum) (r .«lost_left») (r .«lost_right») × ExchangeFits r
 crossing c =
-    let k = c .before .before .before in
+    let k = turn c in
     let e = c .exchange-between .ensures in
     (exchange-at (here k ∙ sym (left-side-next (flow (start k)) (k .before .loop .i))) (next (c .before) .1) (e .0), e .1)
+
+root-table-requires : tie.Need-root-table-requires Inv-loop μ-loop
+root-table-requires c κs = search needs
 
 shared-slice-copy-out-cell-state : tie.Need-shared-slice-copy-out-cell-state Inv-loop μ-loop
 shared-slice-copy-out-cell-state c = omega arith
@@ -121,26 +127,27 @@ shared-slice-copy-out-cell-state-2 c = omega arith
 
 cell-state-requires : tie.Need-cell-state-requires Inv-loop μ-loop
 cell-state-requires c κs =
-    let p = c .before .before .before .before .before .before .pre .0 .1 in
-    rw (toZ-ofZ (sfits-of (c .before .before .cell-state-arg .given)), toZ-ofZ (sfits-of (c .cell-state-arg2 .given))) (p .cell 0 (p .some))
+    let p = c .before .before .before .before .before .before .before .before .pre .0 .1 in
+    rw (toZ-ofZ (sfits-of (c .before .before .before .cell-state-arg .given)), toZ-ofZ (sfits-of (c .before .cell-state-arg2 .given)))
+    (p .cell 0 (p .some), c .before .before .before .before .root-table .ensures)
 
 array-copy-out-boundary-state : tie.Need-array-copy-out-boundary-state Inv-loop μ-loop
 array-copy-out-boundary-state c = omega arith
 
 boundary-state-requires : tie.Need-boundary-state-requires Inv-loop μ-loop
-boundary-state-requires c κs = (first (c .before) .0, c .before .before .before .before .before .before .before .before .pre .0 .1 .left)
+boundary-state-requires c κs = ((first (c .before .before) .0, c .before .before .before .before .before .before .before .before .before .before .before .pre .0 .1 .left), c .before .before .before .before .before .before .before .root-table .ensures)
 
 still-meets-requires : tie.Need-still-meets-requires Inv-loop μ-loop
-still-meets-requires c κs = (c .before .before .before .before .before .before .before .before .before .pre .0 .0, beyond c .0)
+still-meets-requires c κs = (c .before .before .before .before .before .before .before .before .before .before .before .before .pre .0 .0, beyond c .0)
 
 still-meets-requires-2 : tie.Need-still-meets-requires-2 Inv-loop μ-loop
-still-meets-requires-2 c κs = (c .before .before .before .before .before .before .before .before .before .before .pre .0 .0, first (c .before .before .before) .0)
+still-meets-requires-2 c κs = (c .before .before .before .before .before .before .before .before .before .before .before .before .before .pre .0 .0, first (c .before .before .before .before) .0)
 
 exchange-level-requires : tie.Need-exchange-level-requires Inv-loop μ-loop
 exchange-level-requires c κs =
     let b = c .before .before .boundary-state .ensures in (
-      (c .before .before .before .before .before .before .before .before .before .before .before .pre .0 .0, (beyond (c .before .before) .0, first (c .before .before .before .before) .0)),
-      ap (λ (d : Side). d .bed) (b .1) ∙ boundary-bed Left _ (sideOf (c .before .before .before .before .cell-state .result)),
+      (c .before .before .before .before .before .before .before .before .before .before .before .before .before .before .pre .0 .0, (beyond (c .before .before) .0, first (c .before .before .before .before .before) .0)),
+      ap (λ (d : Side). d .bed) (b .1) ∙ boundary-bed Left _ (sideOf (c .before .before .before .before .before .cell-state .result)),
     )
 
 net-of-requires : tie.Need-net-of-requires Inv-loop μ-loop
@@ -158,7 +165,7 @@ loop-holds c =
     let o = c .before in
     let s = entry o in
     let p = s .pre .0 .1 in
-    let a = first (o .before .before .before .before .before .before) in
+    let a = first (o .before .before .before .before .before .before .before) in
     let b = beyond (o .before .before .before .before) in
     let r = a .1 ∙ sym (right-side-cell (flow s) 0 (p .some)) in
     let e = o .before .exchange-level .ensures in
@@ -184,11 +191,12 @@ add-right-side c = let l = index (c .before) in omega (arith, l .1)
 
 right-side-requires : tie.Need-right-side-requires Inv-loop μ-loop
 right-side-requires c κs =
-    let p = start (c .before) .pre .0 .1 in
-    ((p .depths, p .discharges), ((λ l. p .cell _ l), (c .before .before .loop .inv .4, p .right)))
+    let k = c .before .before in
+    let p = start k .pre .0 .1 in
+    ((p .depths, p .discharges), ((λ l. p .cell _ l), ((k .before .loop .inv .4, p .right), table (k .before .before .before) .root-table .ensures)))
 
 exchange-between-requires : tie.Need-exchange-between-requires Inv-loop μ-loop
-exchange-between-requires c κs = (start (c .before .before) .pre .0 .0, (c .before .before .before .loop .inv .4, next c .0))
+exchange-between-requires c κs = let k = c .before .before .before in (start k .pre .0 .0, (k .before .loop .inv .4, next c .0))
 
 mul-granted-of : tie.Need-mul-granted-of Inv-loop μ-loop
 mul-granted-of c = let l = index (turn c) in omega (arith, l .1)
@@ -289,8 +297,8 @@ momentum-after-requires c κs =
       (omega (arith, f .0, f .1), (omega (arith, f .0, l .rightward-most, r .leftward-most, d .depth-after .ensures), (l, r))),
     )
 
-mul-t45 : tie.Need-mul-t45 Inv-loop μ-loop
-mul-t45 c = let l = index (cell-at (c .before .before .before .before)) in omega (arith, l .1)
+mul-t50 : tie.Need-mul-t50 Inv-loop μ-loop
+mul-t50 c = let l = index (cell-at (c .before .before .before .before)) in omega (arith, l .1)
 
 slice-set-from-new-discharge-2 : tie.Need-slice-set-from-new-discharge-2 Inv-loop μ-loop
 slice-set-from-new-discharge-2 c =
@@ -379,6 +387,7 @@ sweep-spec =
     (tie.spec
     Inv-loop
     μ-loop
+    root-table-requires
     shared-slice-copy-out-cell-state
     shared-slice-read-cell-state
     shared-slice-copy-out-cell-state-2
@@ -417,7 +426,7 @@ sweep-spec =
     mul-momentum-after
     shared-slice-copy-out-momentum-after
     momentum-after-requires
-    mul-t45
+    mul-t50
     slice-set-from-new-discharge-2
     add-i
     loop-less
