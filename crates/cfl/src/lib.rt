@@ -2,19 +2,21 @@
 ghost use mathlib.Core.Path.{_≡_};
 ghost use Prim.Native.Nat.{_+_, _≤_};
 ghost use lib.ListN.{length};
+ghost use Rattle.numbers.specs.Table.{RootTable};
 ghost use Rattle.flux.specs.Limits.{cellLengthLeast, cellLengthMost};
 ghost use Rattle.cfl.specs.Cfl.{signalSpeed, speedAt, fastestPlace};
 ghost use Rattle.cfl.specs.Ranges.{Flowing, FlowColumns, stepFor};
 use flux::velocity::velocity_parts;
 use flux::wave::wave_speed;
+use numbers::root::root_table;
 
 // |u|+a of one cell, mm/s
-pub fn signal_speed(h: u64, q: i64) -> u64
-    requires { ⌜ Flowing h q ⌝ }
+pub fn signal_speed(h: u64, q: i64, roots: &[u16; 65]) -> u64
+    requires { ⌜ Flowing h q × RootTable (now roots) ⌝ }
     ensures { λ r. ⌜ (r ≡ signalSpeed h q) × (r ≤ 16_000) ⌝ }
 {
     let u = velocity_parts(h, q);
-    u.right + u.left + wave_speed(h)
+    u.right + u.left + wave_speed(h, roots)
 }
 
 // The place of the greatest |u|+a, the highest among equals, and that speed
@@ -29,11 +31,12 @@ pub fn fastest_of(depth: &[u64], discharge: &[i64], left: u64, right: u64) -> Fa
     ensures { λ r. ⌜ (r .place ≡ fastestPlace (speedAt (now (depth .entry)) (now (discharge .entry)) left right) (length (now (depth .entry)) + 1)) × (r .speed ≡ speedAt (now (depth .entry)) (now (discharge .entry)) left right (r .place)) ⌝ }
 {
     let n = depth.len();
+    let roots = root_table();
     let mut place = 0;
     let mut speed = left;
     let mut i = 0;
     while i < n {
-        let v = signal_speed(depth[i], discharge[i]);
+        let v = signal_speed(depth[i], discharge[i], &roots);
         if speed <= v {
             speed = v;
             place = i + 1;

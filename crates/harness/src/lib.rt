@@ -22,6 +22,7 @@ use flux::crossing::still_thrust;
 use flux::interface::reduced_depth;
 use flux::velocity::velocity_parts;
 use flux::wave::wave_speed;
+use numbers::root::root_table;
 use numbers::signed::joined;
 use numbers::signed::left_part;
 use numbers::signed::right_part;
@@ -33,7 +34,8 @@ pub extern "C" fn harness_wave_speed(h: u64) -> u64
     requires { ⌜ h ≤ depthMost ⌝ }
     ensures { λ r. ⌜ r ≡ waveSpeed h ⌝ }
 {
-    wave_speed(h)
+    let roots = root_table();
+    wave_speed(h, &roots)
 }
 
 // W, Q and S of one side of an interface
@@ -49,7 +51,8 @@ pub extern "C" fn harness_side(t: u64, x: u64, h: u64, u: i64) -> Side
     requires { ⌜ Mesh t x × ((h ≤ depthMost) × (natAbs u ≤ velocityMost)) ⌝ }
     ensures { λ r. ⌜ (r .water ≡ waterFlux t x h u) × ((r .momentum ≡ momentumFlux t x h u) × (r .still ≡ stillThrust t x h)) ⌝ }
 {
-    let a = wave_speed(h);
+    let roots = root_table();
+    let a = wave_speed(h, &roots);
     let c = fluxes_of(t, x, h, a, right_part(u), left_part(u));
     Side {
         water: c.water,

@@ -2,6 +2,7 @@
 ghost use mathlib.Core.Path.{_≡_};
 ghost use Prim.Native.Nat.{_*_, _≤_};
 ghost use lib.IntN.{natAbs};
+ghost use Rattle.numbers.specs.Table.{RootTable};
 ghost use Rattle.flux.specs.Limits.{depthMost, velocityMost};
 ghost use Rattle.water.specs.Ranges.{sideOf, SideStateFits};
 ghost use Rattle.reach.specs.Reach.{came};
@@ -9,6 +10,7 @@ ghost use Rattle.reach.specs.Grounds.{numberOf};
 ghost use Rattle.timestep.specs.GreatestStep.{boundarySpeed, refusedWith, greatest};
 use cfl::fastest_of;
 use cfl::longest_step;
+use numbers::root::root_table;
 use reach::boundary::Boundary;
 use reach::boundary::BoundaryPlace;
 use reach::boundary::FED;
@@ -30,14 +32,15 @@ pub struct GreatestAnswer {
 }
 
 // |u|+a of a boundary at the place p beside the cell c; one that is not fed counts as 0
-pub fn boundary_speed(p: BoundaryPlace, e: Boundary, c: SideState) -> u64
+pub fn boundary_speed(p: BoundaryPlace, e: Boundary, c: SideState, roots: &[u16; 65]) -> u64
     requires { ⌜ SideStateFits c × ((e .depth ≤ depthMost) × (natAbs (e .discharge) ≤ velocityMost * e .depth)) ⌝ }
+    requires { ⌜ RootTable (now roots) ⌝ }
     ensures { λ r. ⌜ r ≡ boundarySpeed p e (sideOf c) ⌝ }
 {
     if e.kind != FED {
         return 0;
     }
-    let side = boundary_state(p, e, c);
+    let side = boundary_state(p, e, c, roots);
     side.right + side.left + side.wave
 }
 
@@ -88,10 +91,11 @@ pub fn greatest_step(
         return refused(checked, held);
     };
     let n = bed.len();
-    let first = cell_state(bed[0], depth[0], discharge[0]);
-    let last = cell_state(bed[n - 1], depth[n - 1], discharge[n - 1]);
-    let left = boundary_speed(BoundaryPlace::Left, boundaries[0], first);
-    let right = boundary_speed(BoundaryPlace::Right, boundaries[1], last);
+    let roots = root_table();
+    let first = cell_state(bed[0], depth[0], discharge[0], &roots);
+    let last = cell_state(bed[n - 1], depth[n - 1], discharge[n - 1], &roots);
+    let left = boundary_speed(BoundaryPlace::Left, boundaries[0], first, &roots);
+    let right = boundary_speed(BoundaryPlace::Right, boundaries[1], last, &roots);
     let f = fastest_of(depth, discharge, left, right);
     GreatestAnswer {
         refusal: 0,

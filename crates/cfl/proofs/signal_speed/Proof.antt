@@ -26,7 +26,7 @@ velocity-parts-requires : tie.Need-velocity-parts-requires
 velocity-parts-requires c κs = search needs
 
 add-result : tie.Need-add-result
-add-result c = let s = c .before .before in omega (arith, size (c .before), velocity-most velocityMost (s .args .h) (s .args .q) (s .pre .discharge))
+add-result c = let s = c .before .before in omega (arith, size (c .before), velocity-most velocityMost (s .args .h) (s .args .q) (s .pre .0 .discharge))
 
 wave-speed-requires : tie.Need-wave-speed-requires
 wave-speed-requires c κs = search needs
@@ -37,7 +37,7 @@ returns c =
     let s = c .before .before .before in
     let u = size (c .before .before) in
     let a = c .wave-speed .ensures in
-    (omega arith, omega (arith, signal-speed-most (s .args .h) (s .args .q) (s .pre .depth) (s .pre .discharge)))
+    (omega arith, omega (arith, signal-speed-most (s .args .h) (s .args .q) (s .pre .0 .depth) (s .pre .0 .discharge)))
 
 add-result-2 : tie.Need-add-result-2
 add-result-2 c = omega (arith, returns c .1)

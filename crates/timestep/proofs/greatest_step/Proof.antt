@@ -63,90 +63,105 @@ some : (c : tie.After-enum-told) → let s = reach (start c) in (0 < cells s) ×
 some c = let k = checked c in (k .some, k .depths, k .discharges)
 
 -- the first and the last cell
-first : (c : tie.After-cell-state) → let s = reach (start (c .before .before .before .before)) in SideStateFits (c .cell-state .result) × (sideOf (c .cell-state .result) ≡ cellSide s 0)
+first : (c : tie.After-cell-state) → let s = reach (start (c .before .before .before .before .before .before)) in SideStateFits (c .cell-state .result) × (sideOf (c .cell-state .result) ≡ cellSide s 0)
 unfolding cellSide
-first c = rw (toZ-ofZ (sfits-of (c .before .before .before .cell-state-arg .given)), toZ-ofZ (sfits-of (c .before .cell-state-arg2 .given))) at (c .cell-state .ensures)
+first c = rw (toZ-ofZ (sfits-of (c .before .before .before .before .cell-state-arg .given)), toZ-ofZ (sfits-of (c .before .before .cell-state-arg2 .given))) at (c .cell-state .ensures)
 
-last : (c : tie.After-cell-state2) → let s = reach (start (c .before .before .before .before .before .before .before .before)) in SideStateFits (c .cell-state2 .result) × (sideOf (c .cell-state2 .result) ≡ cellSide s (cells s - 1))
+last : (c : tie.After-cell-state2) → let s = reach (start (c .before .before .before .before .before .before .before .before .before .before .before)) in SideStateFits (c .cell-state2 .result) × (sideOf (c .cell-state2 .result) ≡ cellSide s (cells s - 1))
 unfolding cellSide
-last c = rw (toZ-ofZ (sfits-of (c .before .before .before .cell-state-arg3 .given)), toZ-ofZ (sfits-of (c .before .cell-state-arg4 .given))) at (c .cell-state2 .ensures)
+last c = rw (toZ-ofZ (sfits-of (c .before .before .before .before .cell-state-arg3 .given)), toZ-ofZ (sfits-of (c .before .before .cell-state-arg4 .given))) at (c .cell-state2 .ensures)
+
+root-table-requires : tie.Need-root-table-requires
+root-table-requires c κs = search needs
 
 shared-slice-copy-out-cell-state : tie.Need-shared-slice-copy-out-cell-state
-shared-slice-copy-out-cell-state c = omega (arith, some c)
+shared-slice-copy-out-cell-state c = omega (arith, some (c .before))
 
 shared-slice-read-cell-state : tie.Need-shared-slice-read-cell-state
-shared-slice-read-cell-state c = omega (arith, some (c .before .before))
+shared-slice-read-cell-state c = omega (arith, some (c .before .before .before))
 
 shared-slice-copy-out-cell-state-2 : tie.Need-shared-slice-copy-out-cell-state-2
-shared-slice-copy-out-cell-state-2 c = omega (arith, some (c .before .before))
+shared-slice-copy-out-cell-state-2 c = omega (arith, some (c .before .before .before))
 
 cell-state-requires : tie.Need-cell-state-requires
 cell-state-requires c κs =
-    let e = c .before .before .before in
-    rw (toZ-ofZ (sfits-of (c .before .before .cell-state-arg .given)), toZ-ofZ (sfits-of (c .cell-state-arg2 .given)))
-    (cell-in-range (reach (start e)) (checked e) 0 (some e .0))
+    let t = c .before .before .before .before in
+    let e = t .before in
+    rw (toZ-ofZ (sfits-of (c .before .before .before .cell-state-arg .given)), toZ-ofZ (sfits-of (c .before .cell-state-arg2 .given)))
+    (cell-in-range (reach (start e)) (checked e) 0 (some e .0), t .root-table .ensures)
 
 sub-cell-state : tie.Need-sub-cell-state
-sub-cell-state c = omega (arith, some (c .before .before .before .before))
+sub-cell-state c = omega (arith, some (c .before .before .before .before .before .before))
 
 mul-cell-state : tie.Need-mul-cell-state
 mul-cell-state c = search needs
 
 shared-slice-copy-out-cell-state-3 : tie.Need-shared-slice-copy-out-cell-state-3
-shared-slice-copy-out-cell-state-3 c = omega (arith, some (c .before .before .before .before))
+shared-slice-copy-out-cell-state-3 c = omega (arith, some (c .before .before .before .before .before .before))
 
 sub-cell-state-2 : tie.Need-sub-cell-state-2
-sub-cell-state-2 c = omega (arith, some (c .before .before .before .before .before))
+sub-cell-state-2 c = omega (arith, some (c .before .before .before .before .before .before .before))
 
 mul-cell-state-2 : tie.Need-mul-cell-state-2
 mul-cell-state-2 c = search needs
 
 shared-slice-read-cell-state-2 : tie.Need-shared-slice-read-cell-state-2
-shared-slice-read-cell-state-2 c = omega (arith, some (c .before .before .before .before .before .before))
+shared-slice-read-cell-state-2 c = omega (arith, some (c .before .before .before .before .before .before .before .before))
 
 sub-cell-state-3 : tie.Need-sub-cell-state-3
-sub-cell-state-3 c = omega (arith, some (c .before .before .before .before .before .before))
+sub-cell-state-3 c = omega (arith, some (c .before .before .before .before .before .before .before .before))
 
 mul-cell-state-3 : tie.Need-mul-cell-state-3
 mul-cell-state-3 c = search needs
 
 shared-slice-copy-out-cell-state-4 : tie.Need-shared-slice-copy-out-cell-state-4
-shared-slice-copy-out-cell-state-4 c = omega (arith, some (c .before .before .before .before .before .before))
+shared-slice-copy-out-cell-state-4 c = omega (arith, some (c .before .before .before .before .before .before .before .before))
 
 cell-state-requires-2 : tie.Need-cell-state-requires-2
 cell-state-requires-2 c κs =
-    let e = c .before .before .before .before .before .before .before in
+    let t = c .before .before .before .before .before .before .before .before .before in
+    let e = t .before in
     let n = some e .0 in
-    rw (toZ-ofZ (sfits-of (c .before .before .cell-state-arg3 .given)), toZ-ofZ (sfits-of (c .cell-state-arg4 .given)))
-    (cell-in-range (reach (start e)) (checked e) (cells (reach (start e)) - 1) (omega arith))
+    rw (toZ-ofZ (sfits-of (c .before .before .before .cell-state-arg3 .given)), toZ-ofZ (sfits-of (c .before .cell-state-arg4 .given)))
+    (cell-in-range (reach (start e)) (checked e) (cells (reach (start e)) - 1) (omega arith), t .root-table .ensures)
 
 array-copy-out-boundary-speed : tie.Need-array-copy-out-boundary-speed
 array-copy-out-boundary-speed c = search needs
 
 boundary-speed-requires : tie.Need-boundary-speed-requires
-boundary-speed-requires c κs = let k = checked (c .before .before .before .before .before .before .before .before .before) .left in (first (c .before .before .before .before .before) .0, (k .depth, k .discharge))
+boundary-speed-requires c κs =
+    let f = c .before .before .before .before .before .before .before in
+    let t = f .before .before .before .before .before in
+    let k = checked (t .before) .left in
+    ((first f .0, (k .depth, k .discharge)), t .root-table .ensures)
 
 array-copy-out-boundary-speed-2 : tie.Need-array-copy-out-boundary-speed-2
 array-copy-out-boundary-speed-2 c = search needs
 
 boundary-speed-requires-2 : tie.Need-boundary-speed-requires-2
-boundary-speed-requires-2 c κs = let k = checked (c .before .before .before .before .before .before .before .before .before .before .before) .right in (last (c .before .before .before) .0, (k .depth, k .discharge))
+boundary-speed-requires-2 c κs =
+    let l = c .before .before .before .before .before in
+    let t = l .before .before .before .before .before .before .before .before .before .before in
+    let k = checked (t .before) .right in
+    ((last l .0, (k .depth, k .discharge)), t .root-table .ensures)
 
 fastest-of-requires : tie.Need-fastest-of-requires
-fastest-of-requires c κs = let e = c .before .before .before .before .before .before .before .before .before .before .before .before in columns-flow (reach (start e)) (checked e)
+fastest-of-requires c κs = let e = c .before .before .before .before .before .before .before .before .before .before .before .before .before .before .before .before .before in columns-flow (reach (start e)) (checked e)
 
 longest-step-requires : tie.Need-longest-step-requires
-longest-step-requires c κs = let k = checked (c .before .before .before .before .before .before .before .before .before .before .before .before .before) in (k .lengthLeast, k .lengthMost)
+longest-step-requires c κs = let k = checked (c .before .before .before .before .before .before .before .before .before .before .before .before .before .before .before .before .before .before) in (k .lengthLeast, k .lengthMost)
 
 returns-2 : tie.Need-returns-2
 unfolding leftSpeed rightSpeed
 returns-2 c =
-    let e = c .before .before .before .before .before .before .before .before .before .before .before .before .before .before in
+    let l = c .before .before .before .before .before .before .before .before in
+    let r = c .before .before .before .before .before .before .before .before .before .before .before .before .before in
+    let e = r .before .before .before .before .before .before in
     let s = reach (start e) in
     let f = c .before .fastest-of .ensures in
     found s _ _ _ _ _ (passed e)
-    (c .before .before .before .before .boundary-speed .ensures ∙ ap (boundarySpeed _ _) (first (c .before .before .before .before .before .before .before .before .before .before) .1))
-    (c .before .before .boundary-speed2 .ensures ∙ ap (boundarySpeed _ _) (last (c .before .before .before .before .before .before) .1))
+    (c .before .before .before .before .before .boundary-speed .ensures ∙ ap (boundarySpeed _ _) (first r .1))
+    (c .before .before .boundary-speed2 .ensures ∙ ap (boundarySpeed _ _) (last l .1))
     (checked e .depths) (f .0) (f .1) (c .longest-step .ensures)
 
 pub greatest-step-spec : {M : Type 1} → statement M
@@ -158,6 +173,7 @@ greatest-step-spec =
     enum-told-2
     refused-requires
     returns
+    root-table-requires
     shared-slice-copy-out-cell-state
     shared-slice-read-cell-state
     shared-slice-copy-out-cell-state-2
