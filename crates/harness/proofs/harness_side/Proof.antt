@@ -9,8 +9,11 @@ use borrow.Author.Needs.{needs}
 use Rattle.harness.proofs.harness_side.Statement.{statement}
 use Rattle.harness.proofs.harness_side.Tie as tie
 
+root-table-requires : tie.Need-root-table-requires
+root-table-requires c κs = search needs
+
 wave-speed-requires : tie.Need-wave-speed-requires
-wave-speed-requires c κs = search needs
+wave-speed-requires c κs = (c .before .before .pre .1 .0, c .before .root-table .ensures)
 
 right-part-requires : tie.Need-right-part-requires
 right-part-requires c κs = search needs
@@ -54,6 +57,7 @@ pub harness-side-spec : {M : Type 1} → statement M
 harness-side-spec =
     tie.close
     (tie.spec
+    root-table-requires
     wave-speed-requires
     right-part-requires
     left-part-requires
