@@ -5,12 +5,12 @@ use mathlib.Core.Bool.{Bool, true, false, not, cond, _&&_}
 use Prim.Native.Nat.{ℕ, zero, suc, _+_, _-_, _*_, _≤_, _<_}
 use native.Mathlib.Omega.{arith}
 use lib.IntN.{ℤ, pos, negsuc, _+ℤ_, _-ℤ_, _*ℤ_, negℤ, natAbs, subℕ, negℤ-negℤ, pos-*ℤ-pos, negsuc-*ℤ-pos}
-use lib.Dec.{leb·suc-zero, T, eqb, ltb, ltb→lt, nltb→le, leb→le, le→leb, nleb→lt}
+use lib.Dec.{leb·suc-zero, T, eqb, ltb, leb, ltb→lt, nltb→le, leb→le, le→leb, nleb→lt}
 use native.Mathlib.Nat.{le-of-lt}
 use mathlib.Core.Logic.{_⊎_, inl, inr, ⊎-elim}
-use lib.Signed.{mag, _≤ℤ_, leZ, leZ-yes}
+use lib.Signed.{mag, _≤ℤ_, leZ, ltZ, leZ-yes}
 use Rattle.numbers.specs.Signed.{positive, maxℤ, eqℤ}
-use borrow.Author.Tests.{lt-ltb, le-ltb, eqb-true, eqb-false}
+use borrow.Author.Tests.{lt-ltb, le-ltb, le-leb, lt-leb, ltb-true, ltb-false, leb-true, leb-false, eqb-true, eqb-false}
 
 T-true : (b : Bool) → T b → b ≡ true
 T-true true t = refl
@@ -207,6 +207,35 @@ eqℤ-is y z = go (leZ y z) (leZ z y) (eqb (R y + L z) (R z + L y)) refl refl re
     go true false false p q r = refl
     go false b true p q r = sym p ∙ holds y z (let e = eqb-true (R y + L z) (R z + L y) r in omega arith)
     go false b false p q r = refl
+
+-- the tests of order, as ones of sums
+ltZ-is : (y z : ℤ) → ltZ y z ≡ ltb (R y + L z) (R z + L y)
+ltZ-is y z = go y z (ltZ y z) refl
+  where
+    go : (y z : ℤ) (t : Bool) → ltZ y z ≡ t → t ≡ ltb (R y + L z) (R z + L y)
+    go (pos m) (pos n) true e = sym (lt-ltb (m + L (pos n)) (n + L (pos m)) (let l = ltb-true m n e in omega (arith, no-left m, no-left n)))
+    go (pos m) (pos n) false e = sym (le-ltb (m + L (pos n)) (n + L (pos m)) (let l = ltb-false m n e in omega (arith, no-left m, no-left n)))
+    go (pos m) (negsuc n) t e = sym e ∙ sym (le-ltb (m + suc n) (0 + L (pos m)) (omega (arith, no-left m)))
+    go (negsuc m) (pos n) t e = sym e ∙ sym (lt-ltb (0 + L (pos n)) (n + suc m) (omega (arith, no-left n)))
+    go (negsuc m) (negsuc n) true e = sym (lt-ltb (0 + suc n) (0 + suc m) (let l = ltb-true n m e in omega arith))
+    go (negsuc m) (negsuc n) false e = sym (le-ltb (0 + suc n) (0 + suc m) (let l = ltb-false n m e in omega arith))
+
+pub ltZ-true : (y z : ℤ) → ltZ y z ≡ true → R y + L z < R z + L y
+ltZ-true y z e = ltb-true (R y + L z) (R z + L y) (sym (ltZ-is y z) ∙ e)
+
+pub ltZ-false : (y z : ℤ) → ltZ y z ≡ false → R z + L y ≤ R y + L z
+ltZ-false y z e = ltb-false (R y + L z) (R z + L y) (sym (ltZ-is y z) ∙ e)
+
+pub leZ-is : (y z : ℤ) → leZ y z ≡ leb (R y + L z) (R z + L y)
+leZ-is y z = go y z (leZ y z) refl
+  where
+    go : (y z : ℤ) (t : Bool) → leZ y z ≡ t → t ≡ leb (R y + L z) (R z + L y)
+    go (pos m) (pos n) true e = sym (le-leb (m + L (pos n)) (n + L (pos m)) (let l = leb-true m n e in omega (arith, no-left m, no-left n)))
+    go (pos m) (pos n) false e = sym (lt-leb (m + L (pos n)) (n + L (pos m)) (let l = leb-false m n e in omega (arith, no-left m, no-left n)))
+    go (pos m) (negsuc n) t e = sym e ∙ sym (lt-leb (m + suc n) (0 + L (pos m)) (omega (arith, no-left m)))
+    go (negsuc m) (pos n) t e = sym e ∙ sym (le-leb (0 + L (pos n)) (n + suc m) (omega (arith, no-left n)))
+    go (negsuc m) (negsuc n) true e = sym (le-leb (0 + suc n) (0 + suc m) (let l = leb-true n m e in omega arith))
+    go (negsuc m) (negsuc n) false e = sym (lt-leb (0 + suc n) (0 + suc m) (let l = leb-false n m e in omega arith))
 
 -- ---- orders with a natural number
 

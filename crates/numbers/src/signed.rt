@@ -1,6 +1,7 @@
 // Signed numbers and their two parts: max(z,0), 'right', and max(−z,0), 'left'.
 ghost use mathlib.Core.Path.{_≡_};
 ghost use Prim.Native.Nat.{_-_, _≤_, _<_};
+ghost use lib.Dec.{leb};
 ghost use lib.IntN.{natAbs, _+ℤ_, negℤ, subℕ};
 ghost use Rattle.numbers.specs.Signed.{positive};
 
@@ -30,6 +31,17 @@ pub fn magnitude(z: i64) -> u64
     ensures { λ r. ⌜ r ≡ natAbs z ⌝ }
 {
     right_part(z) + left_part(z)
+}
+
+// |z| ≤ most, by its two ends: the compiler makes one comparison of them
+pub fn within(z: i64, most: u32) -> bool
+    ensures { λ r. ⌜ r ≡ leb (natAbs z) most ⌝ }
+{
+    let end = most as i64;
+    if z < -end {
+        return false;
+    }
+    z <= end
 }
 
 // right − left as a signed number

@@ -3,40 +3,44 @@ ghost use mathlib.Core.Path.{_≡_};
 ghost use mathlib.Core.Bool.{true};
 ghost use mathlib.Core.List.{[], _∷_};
 ghost use Prim.Native.Nat.{_≤_};
+ghost use lib.IntN.{natAbs};
 ghost use lib.ListN.{length};
 ghost use Rattle.numbers.specs.Index.{tabulate};
 ghost use Rattle.flux.specs.Limits.{depthMost};
-ghost use Rattle.reach.specs.Limits.{cellsMost};
+ghost use Rattle.reach.specs.Limits.{cellsMost, carriedMost};
 ghost use Rattle.reach.specs.Grounds.{carriedFits, carriedCellsFit, shutFits, carriedFit, outletsFit, passOr};
 ghost use Rattle.reach.specs.Ranges.{CarriedColumns, CarriedLengths, Clear, alone, cutDrawn};
 ghost use Rattle.reach.specs.Parts.{drawnFrom};
 use super::boundary::WALL;
 use super::outlets::drawn_by_cell;
 use super::refusal::Check;
-use numbers::signed::left_part;
 use numbers::signed::magnitude;
-use numbers::signed::right_part;
+use numbers::signed::within;
 use outlet::Outlets;
 
-// h = b + l − r − drawn is tested with its negative parts on the other side.
+// The size of l is looked at before. That no more left than the base depth is tested of each side by itself: what both and the outlets took leaves h, which is
+// not below 0.
 fn carried_fits(h: u64, b: u64, l: i64, r: i64, drawn: u64) -> bool
     requires { ⌜ (h ≤ depthMost) × ((b ≤ depthMost) × (drawn ≤ 1_000_000_000)) ⌝ }
+    requires { ⌜ natAbs l ≤ carriedMost ⌝ }
     ensures { λ t. ⌜ t ≡ carriedFits h b l r (drawn ∷ []) ⌝ }
 {
-    let left_in = right_part(l);
-    let left_out = left_part(l);
-    let right_in = left_part(r);
-    let right_out = right_part(r);
-    if 4_000_000 < left_in + left_out {
+    if !within(r, 4_000_000) {
         return false;
     }
-    if 4_000_000 < right_in + right_out {
+    let base = b as i64;
+    let kept = base - drawn as i64;
+    if kept < 0 {
         return false;
     }
-    if h + left_out + right_out + drawn != b + left_in + right_in {
+    if kept < r {
         return false;
     }
-    right_out + left_out + drawn <= b
+    let level = kept + l;
+    if level < 0 {
+        return false;
+    }
+    level - r == h as i64
 }
 
 // At a wall nothing is carried.
@@ -54,6 +58,9 @@ fn check_carried_cells(depth: &[u64], base: &[u64], carried: &[i64], drawn: &[u6
     ensures { λ r. ⌜ r ≡ passOr 8 (carriedCellsFit (now (depth .entry)) (now (base .entry)) (now (carried .entry)) (alone (now (drawn .entry)))) ⌝ }
 {
     let n = depth.len();
+    if !within(carried[0], 4_000_000) {
+        return Check::Refused(8);
+    }
     let mut i = 0;
     while i < n {
         if !carried_fits(depth[i], base[i], carried[i], carried[i + 1], drawn[i]) {

@@ -5,6 +5,7 @@ ghost use Rattle.reach.specs.Grounds.{lengthsFit, cellLengthFits, cellFi
 ghost use Rattle.reach.specs.Ranges.{CellLengths};
 use super::refusal::Check;
 use numbers::signed::magnitude;
+use numbers::signed::within;
 
 // The cells of a reach: work arrays of the calls are as long
 pub const CELLS_MOST: usize = 512;
@@ -84,7 +85,7 @@ pub fn check_cell_length(x: u64) -> Check
 pub fn cell_fits(z: i64, h: u64, q: i64, m: u64, b: u64) -> bool
     ensures { λ r. ⌜ r ≡ cellFits z h q m b ⌝ }
 {
-    if 100_000_000 < magnitude(z) {
+    if !within(z, 100_000_000) {
         return false;
     }
     if 4_000_000 < h {

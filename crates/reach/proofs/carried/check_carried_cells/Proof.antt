@@ -1,21 +1,25 @@
--- `reach::carried::check_carried_cells` meets its contract. The loop: the cells passed keep the rules. Assumes nothing.
+-- `reach::carried::check_carried_cells` meets its contract. The loop: the cells passed keep the rules, and what the last of them has at its right is in
+-- range. Assumes nothing.
 use mathlib.Core.Path.{_≡_, sym, _∙_}
 use mathlib.Core.Bool.{Bool, true}
 use mathlib.Core.List.{List}
 use Prim.Native.Nat.{ℕ, _+_, _-_, _≤_, _<_}
 use native.Mathlib.Omega.{arith}
-use lib.IntN.{ℤ, pos}
+use lib.IntN.{ℤ, pos, natAbs}
+use lib.Dec.{leb}
 use lib.ListN.{length, getD}
 use denote.Ref.{now}
 use mir.Syntax.{w64}
 use mir.Facts.{toZ-ofZ}
 use borrow.Author.Needs.{needs, sfits-of}
-use borrow.Author.Tests.{not-true, not-false}
+use borrow.Author.Tests.{not-true, not-false, leb-true}
 use Rattle.numbers.specs.Index.{allBelow}
-use Rattle.numbers.proofs.IndexLaws.{all-none, all-more, all-fails}
+use Rattle.numbers.proofs.IndexLaws.{all-none, all-more, all-fails, off}
 use Rattle.reach.specs.Grounds.{carriedFits, carriedCellsFit}
 use Rattle.reach.specs.Ranges.{alone}
+use Rattle.reach.specs.Limits.{carriedMost}
 use Rattle.reach.proofs.GroundsLaws.{passes, refuses}
+use Rattle.reach.proofs.Sound.{carried-sound}
 use Rattle.reach.proofs.carried.check_carried_cells.Statement.{statement}
 use Rattle.reach.proofs.carried.check_carried_cells.Tie as tie
 
@@ -23,7 +27,7 @@ abbrev carriedAt : List ℕ → List ℕ → List ℤ → List ℕ → ℕ → B
 carriedAt h b c d i = carriedFits (getD h i 0) (getD b i 0) (getD c i (pos 0)) (getD c (i + 1) (pos 0)) (alone d i)
 
 abbrev Inv-loop : tie.InvT-loop
-Inv-loop h b c d n i₀ i = (i ≤ n) × (allBelow i (carriedAt h b c d) ≡ true)
+Inv-loop h b c d n i₀ i = (i ≤ n) × (allBelow i (carriedAt h b c d) ≡ true) × (natAbs (getD c i (pos 0)) ≤ carriedMost)
 
 abbrev μ-loop : tie.MeasureT-loop
 μ-loop h b c d n i₀ i = n - i
@@ -33,7 +37,10 @@ abbrev turn : tie.After-carried-fits Inv-loop μ-loop → tie.At-loop Inv-loop �
 turn c = c .before .before .before .before .before .before .before
 
 abbrev entry : tie.At-loop Inv-loop μ-loop → tie.Start Inv-loop μ-loop
-entry c = c .before .before .before .before
+entry c = c .before .before .before .before .before .before .before
+
+first-fits : (c : tie.After-within Inv-loop μ-loop) → c .within .result ≡ leb (natAbs (getD (now (c .before .before .before .before .before .args .carried)) 0 (pos 0))) carriedMost
+first-fits c = rw (toZ-ofZ (sfits-of (c .before .within-arg .given))) at (c .within .ensures)
 
 cell-is : (c : tie.After-carried-fits Inv-loop μ-loop) → (let s = entry (turn c) .args in
     c .carried-fits .result ≡ carriedAt (now (s .depth)) (now (s .base)) (now (s .carried)) (now (s .drawn)) (turn c .loop .i))
@@ -44,8 +51,14 @@ cell-is c =
     let right = toZ-ofZ {w = w64} {z = getD (now (s .carried)) (i + 1) (pos 0)} (sfits-of (c .before .before .carried-fits-arg2 .given)) in
     rw (left, right) at (c .carried-fits .ensures)
 
+shared-slice-copy-out-within : tie.Need-shared-slice-copy-out-within Inv-loop μ-loop
+shared-slice-copy-out-within c = let s = c .before .before .before in omega (arith, s .pre .columns .interfaces)
+
+within-requires : tie.Need-within-requires Inv-loop μ-loop
+within-requires c κs = search needs
+
 loop-holds : tie.Need-loop-holds Inv-loop μ-loop
-loop-holds c = (search needs, all-none _)
+loop-holds c = (search needs, all-none _, leb-true _ _ (sym (first-fits (c .before)) ∙ not-false _ (c .if1 .left)))
 
 mul-carried-fits : tie.Need-mul-carried-fits Inv-loop μ-loop
 mul-carried-fits c = search needs
@@ -87,13 +100,20 @@ carried-fits-requires c κs =
     let s = entry at .pre in
     let i = at .loop .i in
     let l : i < length (now (entry at .args .depth)) = omega arith in
-    (s .columns .deep i l, (s .columns .base i l, s .drawn-most i l))
+    let left = toZ-ofZ {w = w64} {z = getD (now (entry at .args .carried)) i (pos 0)} (sfits-of (c .before .before .carried-fits-arg .given)) in
+    ((s .columns .deep i l, (s .columns .base i l, s .drawn-most i l)), rw left (at .loop .inv .2))
 
 returns : tie.Need-returns Inv-loop μ-loop
-unfolding carriedCellsFit
+unfolding carriedCellsFit carriedFits
 returns c =
+    let s = c .before .before .before .before .before .before in
+    refuses 8 (all-fails _ _ 0 (s .pre .columns .some) (off _ _ (sym (first-fits (c .before)) ∙ not-true _ (c .if1 .taken))))
+
+returns-2 : tie.Need-returns-2 Inv-loop μ-loop
+unfolding carriedCellsFit
+returns-2 c =
     refuses 8 (all-fails _ _ (turn (c .before) .loop .i) (search needs)
-    (sym (cell-is (c .before)) ∙ not-true _ (c .if1 .taken)))
+    (sym (cell-is (c .before)) ∙ not-true _ (c .if2 .taken)))
 
 add-i : tie.Need-add-i Inv-loop μ-loop
 add-i c = search needs
@@ -104,11 +124,12 @@ loop-less c = search needs
 loop-again : tie.Need-loop-again Inv-loop μ-loop
 loop-again c =
     let l = turn (c .before) .loop in
-    (search needs, all-more _ (l .i) (l .inv .1) (sym (cell-is (c .before)) ∙ not-false _ (c .if1 .left)))
+    let e = sym (cell-is (c .before)) ∙ not-false _ (c .if2 .left) in
+    (search needs, all-more _ (l .i) (l .inv .1) e, carried-sound _ _ _ _ _ e .right)
 
-returns-2 : tie.Need-returns-2 Inv-loop μ-loop
+returns-3 : tie.Need-returns-3 Inv-loop μ-loop
 unfolding carriedCellsFit
-returns-2 c =
+returns-3 c =
     let e : c .before .loop .i ≡ length (now (entry (c .before) .args .depth)) = omega arith in
     passes 8 (rw e at (c .before .loop .inv .1))
 
@@ -118,6 +139,9 @@ check-carried-cells-spec =
     (tie.spec
     Inv-loop
     μ-loop
+    shared-slice-copy-out-within
+    within-requires
+    returns
     loop-holds
     mul-carried-fits
     shared-slice-read-carried-fits
@@ -131,8 +155,8 @@ check-carried-cells-spec =
     mul-carried-fits-5
     shared-slice-read-carried-fits-3
     carried-fits-requires
-    returns
+    returns-2
     add-i
     loop-less
     loop-again
-    returns-2)
+    returns-3)
