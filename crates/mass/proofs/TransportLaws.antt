@@ -113,6 +113,15 @@ module _ (s : MassColumns) where
     unfolding movedCell
     moved-is = omega (arith, whole, three-shares i)
 
+  -- the mass that stays in cell i
+  abbrev pub stayed : ℕ → ℕ
+  stayed i = rest (M i) (B i) (cellOutflow s i)
+
+  -- what is written, in the order that it comes together
+  pub moved-by : (i : ℕ) (v held left : ℕ) → v ≡ held + left → held ≡ stayed i + rightwards s i → left ≡ leftwards s (i + 1) → v ≡ movedCell s i
+  unfolding movedCell
+  moved-by i v held left e p q = omega arith
+
   -- a cell that gave all its water keeps nothing of its mass
   pub moved-all : (hi i : ℕ) → M i ≤ hi * B i → cellOutflow s i ≡ B i → movedCell s i ≡ rightwards s i + leftwards s (i + 1)
   unfolding movedCell
@@ -214,6 +223,10 @@ module _ (s : MassColumns) (i : ℕ) (r : ReadyAt s i) where
   pub mass-small : i < length (s .mass) → getD (s .mass) i 0 ≤ massMost
   mass-small l = let g = r .giving l in omega (arith, g .deep, g .rich)
 
+  pub stayed-small : i < length (s .mass) → stayed s i ≤ massMost
+  unfolding rest
+  stayed-small l = omega (arith, mass-small l)
+
   pub leftwards-small : i ≤ length (s .mass) → leftwards s i ≤ massMost
   leftwards-small h =
       ⊎-elim
@@ -244,6 +257,18 @@ module _ (m m₀ b : List ℕ) (c : List ℤ) (d : ℕ → List ℕ) (x x₀ y :
   pub leftwards-same : (j : ℕ) → getD m j 0 ≡ getD m₀ j 0 → leftwards (massColumns m b c d x y) j ≡ leftwards (massColumns m₀ b c d x₀ y) j
   unfolding leftwards cellShares
   leftwards-same j e = rw (e, long) refl
+
+-- ---- What leaves a cell, and what stays in it, does not depend on what enters over the boundaries.
+module _ (s : MassColumns) where
+  abbrev inside : MassColumns
+  inside = massColumns (s .mass) (s .base) (s .carried) (s .drawn) 0 0
+
+  pub ready-inside : (i : ℕ) → ReadyAt s i → ReadyAt inside i
+  ready-inside i r = record { bases = r .bases; interfaces = r .interfaces; giving = r .giving; entering = omega arith }
+
+  pub shares-inside : (i : ℕ) → cellShares inside i ≡ cellShares s i
+  unfolding cellShares
+  shares-inside i = refl
 
 -- ---- What the outlets of a cell have drawn counts as one part for all that is not an outlet's own share.
 module _ (m b : List ℕ) (c : List ℤ) (d e : ℕ → List ℕ) (x y : ℕ) (same : (i : ℕ) → i < length m → sum (d i) ≡ sum (e i)) where

@@ -4,10 +4,10 @@ pub mod outlets;
 ghost use mathlib.Core.Path.{_≡_};
 ghost use mathlib.Core.List.{[], _∷_};
 ghost use Prim.Native.Nat.{_+_, _-_, _*_, _/_, _≤_, _<_};
-ghost use lib.ListN.{length};
-ghost use Rattle.numbers.specs.Shares.{shares};
+ghost use lib.ListN.{length, getD};
+ghost use Rattle.numbers.specs.Shares.{shares, rest};
 ghost use Rattle.reach.specs.Ranges.{alone};
-ghost use Rattle.mass.specs.Transport.{massColumns, rightShare, outletShare, leftwards};
+ghost use Rattle.mass.specs.Transport.{massColumns, cellShares, cellOutflow, rightShare, outletShare, leftwards};
 ghost use Rattle.mass.specs.Ranges.{Giving, ReadyAt, Ready, massMost, movedMass};
 use numbers::signed::left_part;
 use numbers::signed::right_part;
@@ -24,11 +24,12 @@ pub fn floor_after(m: u64, b: u64, before: u64, part: u64, floor: u64) -> u64
     m * (before + part) / b
 }
 
-// What leaves a cell over its right, over its left and by its outlets together
+// What leaves a cell over its right, over its left and by its outlets together, and what stays
 pub struct Shares {
     pub right: u64,
     pub left: u64,
     pub drawn: u64,
+    pub rest: u64,
 }
 
 // The shares of a cell's mass by running floors, not floored singly: what the floors cut off stays in the cell, or goes with the last
@@ -36,6 +37,7 @@ pub struct Shares {
 fn shares_of(m: u64, b: u64, right: u64, left: u64, drawn: u64) -> Shares
     requires { ⌜ Giving m b (right + left + drawn) ⌝ }
     ensures { λ r. ⌜ r .right ∷ r .left ∷ r .drawn ∷ [] ≡ shares m b 0 (right ∷ left ∷ drawn ∷ []) ⌝ }
+    ensures { λ r. ⌜ r .rest ≡ rest m b (right + left + drawn) ⌝ }
 {
     let first = floor_after(m, b, 0, right, 0);
     let second = floor_after(m, b, right, left, first);
@@ -44,7 +46,23 @@ fn shares_of(m: u64, b: u64, right: u64, left: u64, drawn: u64) -> Shares
         right: first,
         left: second - first,
         drawn: third - second,
+        rest: m - third,
     }
+}
+
+fn shares_at(mass: &[u64], base: &[u64], carried: &[i64], drawn: &[u64], i: usize) -> Shares
+    requires { ⌜ ReadyAt (massColumns (now mass) (now base) (now carried) (alone (now drawn)) 0 0) i ⌝ }
+    requires { ⌜ (i < length (now mass)) × (length (now mass) ≤ length (now drawn)) ⌝ }
+    ensures { λ r. ⌜ r .right ∷ r .left ∷ r .drawn ∷ [] ≡ cellShares (massColumns (now (mass .entry)) (now (base .entry)) (now (carried .entry)) (alone (now (drawn .entry))) 0 0) i ⌝ }
+    ensures { λ r. ⌜ r .rest ≡ rest (getD (now (mass .entry)) i 0) (getD (now (base .entry)) i 0) (cellOutflow (massColumns (now (mass .entry)) (now (base .entry)) (now (carried .entry)) (alone (now (drawn .entry))) 0 0) i) ⌝ }
+{
+    shares_of(
+        mass[i],
+        base[i],
+        right_part(carried[i + 1]),
+        left_part(carried[i]),
+        drawn[i],
+    )
 }
 
 // The shares of cell i; past the last cell, what enters over the right boundary goes left
@@ -63,30 +81,26 @@ pub fn leaving(
     ensures { λ r. ⌜ (i < length (now (mass .entry)) → r .drawn ≡ outletShare (massColumns (now (mass .entry)) (now (base .entry)) (now (carried .entry)) (alone (now (drawn .entry))) 0 «right_in») i 0) ⌝ }
 {
     if i < mass.len() {
-        return shares_of(
-            mass[i],
-            base[i],
-            right_part(carried[i + 1]),
-            left_part(carried[i]),
-            drawn[i],
-        );
+        return shares_at(mass, base, carried, drawn, i);
     }
     Shares {
         right: 0,
         left: right_in,
         drawn: 0,
+        rest: 0,
     }
 }
 
-// What a cell holds after its shares have left and those of its neighbours have come
-fn moved(held: u64, out: u64, from_left: u64, from_right: u64) -> u64
-    requires { ⌜ (out ≤ held) × ((held ≤ massMost) × ((«from_left» ≤ massMost) × («from_right» ≤ massMost))) ⌝ }
-    ensures { λ r. ⌜ r ≡ held - out + «from_left» + «from_right» ⌝ }
+// What a cell holds with a share that has come
+fn with_share(held: u64, share: u64) -> u64
+    requires { ⌜ (held ≤ massMost + massMost) × (share ≤ massMost) ⌝ }
+    ensures { λ r. ⌜ r ≡ held + share ⌝ }
 {
-    held - out + from_left + from_right
+    held + share
 }
 
-// Every cell from the left: its own shares and those of the next cell are found before it is written, each once.
+// Every cell from the left, written once the shares of the next one are found. `held` is what has stayed in cell i and come from its left, `right` its right
+// share.
 pub fn move_mass(
     mass: &mut [u64],
     base: &[u64],
@@ -100,19 +114,19 @@ pub fn move_mass(
     ensures { λ _. ⌜ now (mass .exit) ≡ movedMass (massColumns (now (mass .entry)) (now (base .entry)) (now (carried .entry)) (alone (now (drawn .entry))) «left_in» «right_in») ⌝ }
 {
     let n = mass.len();
-    let mut from_left = left_in;
-    let mut out = leaving(mass, base, carried, drawn, right_in, 0);
+    if n == 0 {
+        return;
+    }
+    let first = shares_at(mass, base, carried, drawn, 0);
+    let mut held = with_share(first.rest, left_in);
+    let mut right = first.right;
     let mut i = 0;
-    while i < n {
-        let next = leaving(mass, base, carried, drawn, right_in, i + 1);
-        mass[i] = moved(
-            mass[i],
-            out.right + out.left + out.drawn,
-            from_left,
-            next.left,
-        );
-        from_left = out.right;
-        out = next;
+    while i + 1 < n {
+        let next = shares_at(mass, base, carried, drawn, i + 1);
+        mass[i] = with_share(held, next.left);
+        held = with_share(next.rest, right);
+        right = next.right;
         i += 1;
     }
+    mass[i] = with_share(held, right_in);
 }

@@ -42,11 +42,14 @@ fn outlet_after(o: Outlet, share: u64) -> Outlet
     }
 }
 
-// Every outlet in list order, after what those before it have drawn of its cell
+// Every outlet in list order, after what those before it have drawn of its cell. Without one no column is laid out.
 pub fn move_outlets(mass: &[u64], base: &[u64], carried: &[i64], outlets: Outlets) -> Outlets
     requires { ⌜ OutletsReady (now mass) (now base) (now carried) outlets ⌝ }
     ensures { λ r. ⌜ r ≡ movedOutlets (massColumns (now (mass .entry)) (now (base .entry)) (now (carried .entry)) (drawnFrom outlets) 0 0) outlets ⌝ }
 {
+    if outlets.count == 0 {
+        return outlets;
+    }
     let count = outlets.count;
     let old = outlets.list;
     let mut list = old;

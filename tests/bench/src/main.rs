@@ -11,7 +11,7 @@ mod reaches;
 mod table;
 
 use agreement::{both, calls};
-use reaches::{alternating, flow, half_dry, scattered, still, stretches, tossed};
+use reaches::{alternating, drops, flow, half_dry, scattered, still, stretches, tossed, uneven};
 use reference::outlet::MOST_OUTLETS;
 use reference::random::{end_of_kind, record_of, sheet_of, Random, Record, COLUMN_ORDERS};
 use reference::record::{FED, OPEN};
@@ -160,7 +160,7 @@ fn compare_step(
     })
 }
 
-/// Steps that keep their sums, steps with a transport first, and steps over a flat bed, without friction and with; then first steps of water whose
+/// Steps that keep their sums, steps with a transport first, and steps over a flat bed, without friction and with; then first steps over uneven beds, of water whose
 /// direction alternates from cell to cell or is any, of water at rest, and of reaches with dry cells.
 fn compare_steps(table: &Table<3>, r: &mut Random) {
     let kinds = [
@@ -176,7 +176,9 @@ fn compare_steps(table: &Table<3>, r: &mut Random) {
         ours.insert(kind, compare_step(table, kind, strickler, to_c, list));
     }
     type Reach = fn(&mut Random, usize) -> Record;
-    let first: [(&str, Reach, Option<f64>); 6] = [
+    let first: [(&str, Reach, Option<f64>); 8] = [
+        ("uneven bed", uneven, Some(1.0)),
+        ("steep drops", drops, None),
         ("alternating", alternating, None),
         ("directions tossed", tossed, None),
         ("still", still, Some(1.0)),

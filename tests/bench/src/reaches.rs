@@ -46,6 +46,25 @@ pub fn flow(r: &mut Random, cells: usize, slope: i64) -> Record {
     record
 }
 
+/// The same flow over a bed whose levels are tossed within so many micrometres.
+fn flow_over(r: &mut Random, cells: usize, roughness: i64) -> Record {
+    let mut record = flow(r, cells, 0);
+    for level in &mut record.columns.bed {
+        *level = r.between(-roughness, roughness);
+    }
+    record
+}
+
+/// Neighbours differ by centimetres, upwards or downwards, which a processor cannot learn.
+pub fn uneven(r: &mut Random, cells: usize) -> Record {
+    flow_over(r, cells, 20_000)
+}
+
+/// Neighbours differ by up to the depth, so that the reduced depths are anything.
+pub fn drops(r: &mut Random, cells: usize) -> Record {
+    flow_over(r, cells, 800_000)
+}
+
 /// Water of 10 to 20 cm at 2 to 3 m/s, which is faster than its waves: of u+a and u−a, both are above 0 where it goes rightwards and neither where it
 /// goes leftwards.
 fn rapid(r: &mut Random, cells: usize, rightwards: impl Fn(&mut Random, i64) -> bool) -> Record {

@@ -1,151 +1,139 @@
 -- `mass::move_mass` meets its contract: what crosses the next interface is known before a cell is written, and a cell that is not
 -- written yet is read as it came. Assumes nothing.
 use mathlib.Core.Path.{_≡_, refl, sym, ap, _∙_}
+use mathlib.Core.List.{[], _∷_}
 use denote.Ref.{now}
 use Prim.Native.Nat.{ℕ, _+_, _-_, _≤_, _<_}
 use native.Mathlib.Omega.{arith}
 use borrow.Author.Needs.{needs}
-use lib.ListN.{length, getD}
+use lib.ListN.{length, getD, length-set}
 use Rattle.numbers.proofs.IndexLaws.{Written, written-none, written-more, written-all}
-use Rattle.reach.specs.Parts.{rightOf, outletOf}
+use Rattle.reach.specs.Parts.{rightOf, leftOf}
 use Rattle.reach.specs.Ranges.{alone}
-use Rattle.mass.specs.Transport.{MassColumns, massColumns, rightShare, leftShare, outletShare, leftwards, rightwards, movedCell}
-use Rattle.mass.proofs.TransportLaws.{rightwards-next, leftwards-cell, moved-is, shares-fit, mass-small, leftwards-small, rightwards-small, ready-same, shares-same, leftwards-same, drawnMass, drawn-alone}
+use Rattle.mass.specs.Transport.{MassColumns, massColumns, cellShares, rightShare, leftwards, rightwards, movedCell}
+use Rattle.mass.proofs.TransportLaws.{stayed, moved-by, stayed-small, rightwards-next, leftwards-cell, leftwards-end, leftwards-small, rightwards-small, ready-same, ready-inside, shares-same, shares-inside}
 use Rattle.mass.proofs.move_mass.Statement.{statement}
 use Rattle.mass.proofs.move_mass.Tie as tie
 
 abbrev Inv-loop : tie.InvT-loop
-Inv-loop m₀ b c d left-in right-in n from-left₀ out₀ i₀ m from-left out i =
+Inv-loop m₀ b c d left-in right-in n held₀ right₀ i₀ m held right i =
     let s = massColumns m₀ b c (alone d) left-in right-in in
-    (i ≤ n)
-    × Written 0 (movedCell s) m₀ i m
-    × (from-left ≡ rightwards s i)
-    × (out .left ≡ leftwards s i)
-    × (i < length m₀ → out .right ≡ rightShare s i)
-    × (i < length m₀ → out .drawn ≡ outletShare s i 0)
+    (i < n) × Written 0 (movedCell s) m₀ i m × (held ≡ stayed s i + rightwards s i) × (right ≡ rightShare s i)
 
 abbrev μ-loop : tie.MeasureT-loop
-μ-loop m₀ b c d left-in right-in n from-left₀ out₀ i₀ m from-left out i = n - i
+μ-loop m₀ b c d left-in right-in n held₀ right₀ i₀ m held right i = n - i
 
 abbrev col : tie.Start Inv-loop μ-loop → MassColumns
 col s = massColumns (now (s .args .mass)) (now (s .args .base)) (now (s .args .carried)) (alone (now (s .args .drawn))) (s .args .left-in) (s .args .right-in)
 
-abbrev entry : tie.After-leaving2 Inv-loop μ-loop → tie.Start Inv-loop μ-loop
-entry c = c .before .before .before .before .before .before .before .before .before
+-- ---- the first cell
 
-abbrev at : tie.After-leaving2 Inv-loop μ-loop → ℕ
-at c = c .before .before .before .loop .i
+abbrev first : tie.After-shares-at Inv-loop μ-loop → tie.Start Inv-loop μ-loop
+first c = c .before .before .before .before .before .before
 
-right-now : (c : tie.After-leaving2 Inv-loop μ-loop) → c .before .before .before .loop .out .right ≡ rightShare (col (entry c)) (at c)
-right-now c = c .before .before .before .loop .inv .4 (omega arith)
+some : (c : tie.After-shares-at Inv-loop μ-loop) → 0 < length (col (first c) .mass)
+some c = let e = c .before .before .if1 .left in omega arith
 
-next-left : (c : tie.After-leaving2 Inv-loop μ-loop) → c .leaving2 .result .left ≡ leftwards (col (entry c)) (at c + 1)
-next-left c =
-    let w = c .before .before .before .loop .inv .1 in
-    c .leaving2 .ensures .0 ∙ leftwards-same _ _ _ _ _ 0 (entry c .args .left-in) _ (w .long) (at c + 1) (w .same (at c + 1) (omega arith))
+first-right : (c : tie.After-shares-at Inv-loop μ-loop) → c .shares-at .result .right ≡ rightShare (col (first c)) 0
+first-right c = ap rightOf (c .shares-at .ensures .0 ∙ shares-inside (col (first c)) 0)
 
-next-right : (c : tie.After-leaving2 Inv-loop μ-loop) → at c + 1 < length (now (entry c .args .mass)) → c .leaving2 .result .right ≡ rightShare (col (entry c)) (at c + 1)
-next-right c l =
-    let w = c .before .before .before .loop .inv .1 in
-    c .leaving2 .ensures .1 .0 (omega (arith, w .long))
-    ∙ ap rightOf (shares-same _ _ _ _ _ 0 (entry c .args .left-in) (entry c .args .right-in) (w .long) (at c + 1) (w .same (at c + 1) (omega arith)))
+returns : tie.Need-returns Inv-loop μ-loop
+returns c =
+    let s = col (c .before .before .before .before) in
+    written-all 0 (movedCell s) (s .mass) 0 (s .mass) (written-none _ _ _) (sym (c .if1 .taken))
 
-next-drawn : (c : tie.After-leaving2 Inv-loop μ-loop) → at c + 1 < length (now (entry c .args .mass)) → c .leaving2 .result .drawn ≡ outletShare (col (entry c)) (at c + 1) 0
-next-drawn c l =
-    let w = c .before .before .before .loop .inv .1 in
-    c .leaving2 .ensures .1 .1 (omega (arith, w .long))
-    ∙ ap (outletOf 0) (shares-same _ _ _ _ _ 0 (entry c .args .left-in) (entry c .args .right-in) (w .long) (at c + 1) (w .same (at c + 1) (omega arith)))
+shares-at-requires : tie.Need-shares-at-requires Inv-loop μ-loop
+shares-at-requires c κs =
+    let s = c .before .before .before .before .before in
+    let e = c .before .if1 .left in
+    (ready-inside (col s) 0 (s .pre .0 .each 0), (omega arith, s .pre .1))
 
--- the amounts at cell i, and that they are small
-facts : (c : tie.After-leaving2 Inv-loop μ-loop) →
-    let s = col (entry c) in
-    let i = at c in
-    let o = c .before .before .before .loop .out in
-    (o .right + o .left + o .drawn ≤ getD (s .mass) i 0) × (getD (s .mass) i 0 ≤ 2_000_000_000_000)
-    × (c .before .before .before .loop .from-left ≤ 2_000_000_000_000)
-    × (c .leaving2 .result .left ≤ 2_000_000_000_000)
-    × (o .left ≡ leftShare s i) × (o .right ≡ rightShare s i) × (o .drawn ≡ drawnMass s i)
-    × (c .before .before .before .loop .from-left ≡ rightwards s i)
-    × (c .leaving2 .result .left ≡ leftwards s (i + 1))
-facts c =
-    let s = col (entry c) in
-    let i = at c in
-    let r = entry c .pre .0 in
-    let w = c .before .before .before .loop .inv in
-    let l : i < length (s .mass) = omega arith in
-    let ol = w .3 ∙ leftwards-cell s i l in
-    let or = right-now c in
-    let od = w .5 l ∙ drawn-alone s i refl in
-    let nl = next-left c in (
-      omega (arith, shares-fit s i (r .each i .giving l .covered)),
-      mass-small s i (r .each i) l,
-      omega (arith, w .2, rightwards-small s r i (omega arith)),
-      omega (arith, leftwards-small s (i + 1) (r .each (i + 1)) (omega arith)),
-      ol,
-      or,
-      od,
-      w .2,
-      nl,
-    )
-
--- the same over plain values: what is written is the cell's new mass
-moved-by : (v h r l d f g m r' l' d' a b new : ℕ) → v ≡ h - (r + l + d) + f + g → h ≡ m → r ≡ r' → l ≡ l' → d ≡ d' → f ≡ a → g ≡ b → r' + l' + d' ≤ m
-    → new + (r' + l' + d') ≡ m + a + b → v ≡ new
-moved-by v h r l d f g m r' l' d' a b new e p q s t u w le x = omega arith
-
-leaving-requires : tie.Need-leaving-requires Inv-loop μ-loop
-leaving-requires c κs =
-    let s = c .before .before .before .before in
-    (ready-same _ _ _ _ _ _ _ _ refl 0 refl (s .pre .0 .each 0), (omega arith, s .pre .1))
+with-share-requires : tie.Need-with-share-requires Inv-loop μ-loop
+with-share-requires c κs =
+    let r = first c .pre .0 in
+    (omega (arith, c .shares-at .ensures .1, stayed-small (col (first c)) 0 (r .each 0) (some c)), r .entering)
 
 loop-holds : tie.Need-loop-holds Inv-loop μ-loop
 unfolding rightwards
 loop-holds c =
-    let s = c .before .before .before .before .before in
-    let a = s .args in
-    let e = c .leaving .ensures in (
-      omega arith,
-      written-none _ _ _,
-      refl,
-      e .0 ∙ leftwards-same _ _ _ _ _ 0 (a .left-in) _ refl 0 refl,
-      λ l. e .1 .0 l ∙ ap rightOf (shares-same _ _ _ _ _ 0 (a .left-in) (a .right-in) refl 0 refl),
-      λ l. e .1 .1 l ∙ ap (outletOf 0) (shares-same _ _ _ _ _ 0 (a .left-in) (a .right-in) refl 0 refl),
-    )
+    let b = c .before in
+    (some b, written-none _ _ _, c .with-share .ensures ∙ ap (λ (x : ℕ). x + first b .args .left-in) (b .shares-at .ensures .1), first-right b)
 
-add-leaving : tie.Need-add-leaving Inv-loop μ-loop
-add-leaving c = search needs
+-- ---- a turn: cell i is written, and the next one is at hand
 
-leaving-requires-2 : tie.Need-leaving-requires-2 Inv-loop μ-loop
-leaving-requires-2 c κs =
-    let w = c .before .before .loop .inv in
-    let i = c .before .before .loop .i in
-    let s = c .before .before .before .before .before .before .before .before in
-    (ready-same _ _ _ _ _ _ _ _ (w .1 .long) (i + 1) (w .1 .same (i + 1) (omega arith)) (s .pre .0 .each (i + 1)), (omega (arith, w .1 .long), omega (arith, w .1 .long, s .pre .1)))
+abbrev entry : tie.At-loop Inv-loop μ-loop → tie.Start Inv-loop μ-loop
+entry c = c .before .before .before .before .before .before .before .before
 
-mul-moved : tie.Need-mul-moved Inv-loop μ-loop
-mul-moved c = search needs
+module _ (c : tie.At-loop Inv-loop μ-loop) where
+  abbrev s : MassColumns
+  s = col (entry c)
 
-slice-read-moved : tie.Need-slice-read-moved Inv-loop μ-loop
-slice-read-moved c = search needs
+  abbrev at : ℕ
+  at = c .loop .i
 
-add-moved : tie.Need-add-moved Inv-loop μ-loop
-add-moved c = let f = facts (c .before .before) in omega (arith, f .0, f .1)
+  held-small : c .loop .held ≤ 4_000_000_000_000
+  held-small =
+      let r = entry c .pre .0 in
+      omega (arith, c .loop .inv .2, stayed-small s at (r .each at) (c .loop .inv .0), rightwards-small s r at (omega (arith, c .loop .inv .0)))
 
-add-moved-2 : tie.Need-add-moved-2 Inv-loop μ-loop
-add-moved-2 c = let f = facts (c .before .before .before) in omega (arith, f .0, f .1)
+  right-small : c .loop .right ≤ 2_000_000_000_000
+  right-small = omega (arith, c .loop .inv .3, rightwards-next s at, rightwards-small s (entry c .pre .0) (at + 1) (omega (arith, c .loop .inv .0)))
 
-moved-requires : tie.Need-moved-requires Inv-loop μ-loop
-moved-requires c κs =
-    let b = c .before .before .before in
-    let f = facts b in
-    let h = b .before .before .before .loop .inv .1 .same (at b) (omega arith) in
-    (omega arith, (omega arith, (omega arith, omega arith)))
+abbrev turn : tie.After-shares-at2 Inv-loop μ-loop → tie.At-loop Inv-loop μ-loop
+turn c = c .before .before .before
+
+module _ (c : tie.After-shares-at2 Inv-loop μ-loop) where
+  abbrev next : ℕ
+  next = at (turn c) + 1
+
+  there : next < length (s (turn c) .mass)
+  there = c .before .before .loop-test .taken
+
+  as-it-came : getD (turn c .loop .mass) next 0 ≡ getD (s (turn c) .mass) next 0
+  as-it-came = turn c .loop .inv .1 .same next (omega arith)
+
+  next-shares : c .shares-at2 .result .right ∷ c .shares-at2 .result .left ∷ c .shares-at2 .result .drawn ∷ [] ≡ cellShares (s (turn c)) next
+  next-shares =
+      c .shares-at2 .ensures .0
+      ∙ shares-same _ _ _ _ _ 0 0 0 (turn c .loop .inv .1 .long) next as-it-came
+      ∙ shares-inside (s (turn c)) next
+
+  next-left : c .shares-at2 .result .left ≡ leftwards (s (turn c)) next
+  next-left = ap leftOf next-shares ∙ sym (leftwards-cell (s (turn c)) next there)
+
+  next-stays : c .shares-at2 .result .rest ≡ stayed (s (turn c)) next
+  next-stays = rw as-it-came at (c .shares-at2 .ensures .1)
+
+add-loop : tie.Need-add-loop Inv-loop μ-loop
+add-loop c = search needs
+
+add-shares-at : tie.Need-add-shares-at Inv-loop μ-loop
+add-shares-at c = search needs
+
+shares-at-requires-2 : tie.Need-shares-at-requires-2 Inv-loop μ-loop
+shares-at-requires-2 c κs =
+    let b = c .before .before in
+    let w = b .loop .inv .1 in
+    let j = at b + 1 in
+    let l : j < length (s b .mass) = c .before .loop-test .taken in
+    (ready-same _ _ _ _ _ _ _ _ (w .long) j (w .same j (omega arith)) (ready-inside (s b) j (entry b .pre .0 .each j)), (omega (arith, w .long, l), omega (arith, w .long, entry b .pre .1)))
+
+with-share-requires-2 : tie.Need-with-share-requires-2 Inv-loop μ-loop
+with-share-requires-2 c κs =
+    let b = turn c in
+    (held-small b, omega (arith, next-left c, leftwards-small (s b) (next c) (entry b .pre .0 .each (next c)) (omega (arith, there c))))
 
 mul-mass : tie.Need-mul-mass Inv-loop μ-loop
 mul-mass c = search needs
 
 slice-write-mass : tie.Need-slice-write-mass Inv-loop μ-loop
 slice-write-mass c = search needs
+
+with-share-requires-3 : tie.Need-with-share-requires-3 Inv-loop μ-loop
+with-share-requires-3 c κs =
+    let n = c .before in
+    let b = turn n in
+    (omega (arith, next-stays n, stayed-small (s b) (next n) (entry b .pre .0 .each (next n)) (there n)), right-small b)
 
 add-i : tie.Need-add-i Inv-loop μ-loop
 add-i c = search needs
@@ -155,30 +143,37 @@ loop-less c = omega arith
 
 loop-again : tie.Need-loop-again Inv-loop μ-loop
 loop-again c =
-    let b = c .before .before .before .before in
-    let f = facts b in
-    let w = b .before .before .before .loop .inv in
-    let i = b .before .before .before .loop .i in
-    let s = col (entry b) in
-    let l : i < length (s .mass) = omega arith in
-    let cov = entry b .pre .0 .each i .giving l .covered in
-    let h = w .1 .same i (omega arith) in (
-      omega arith,
-      written-more 0 (movedCell s) (s .mass) i _ _ (w .1) (omega arith) (moved-by _ _ _ _ _ _ _ _ _ _ _ _ _ _ (c .moved .ensures) h (f .5) (f .4) (f .6) (f .7) (f .8) (shares-fit s i cov) (moved-is s i cov)),
-      right-now b ∙ sym (rightwards-next s i),
-      next-left b,
-      λ l. next-right b l,
-      λ l. next-drawn b l,
+    let n = c .before .before in
+    let b = turn n in
+    let w = b .loop .inv in (
+      there n,
+      written-more 0 (movedCell (s b)) (s b .mass) (at b) _ _ (w .1) (w .0) (moved-by (s b) (at b) _ _ _ (c .before .with-share2 .ensures) (w .2) (next-left n)),
+      omega (arith, c .with-share3 .ensures, next-stays n, w .3, rightwards-next (s b) (at b)),
+      ap rightOf (next-shares n),
     )
 
-same-length : tie.Need-same-length Inv-loop μ-loop
-same-length c = c .before .loop .inv .1 .long
+-- ---- the last cell
 
-returns : tie.Need-returns Inv-loop μ-loop
-returns c =
-    let w = c .before .loop .inv in
-    let s = col (c .before .before .before .before .before .before .before) in
-    written-all 0 (movedCell s) (s .mass) (c .before .loop .i) (c .before .loop .mass) (w .1) (omega arith)
+with-share-requires-4 : tie.Need-with-share-requires-4 Inv-loop μ-loop
+with-share-requires-4 c κs = (held-small (c .before), entry (c .before) .pre .0 .each 0 .entering)
+
+mul-mass-2 : tie.Need-mul-mass-2 Inv-loop μ-loop
+mul-mass-2 c = search needs
+
+slice-write-mass-2 : tie.Need-slice-write-mass-2 Inv-loop μ-loop
+slice-write-mass-2 c = search needs
+
+same-length : tie.Need-same-length Inv-loop μ-loop
+same-length c = length-set (c .before .before .loop .mass) _ _ ∙ c .before .before .loop .inv .1 .long
+
+returns-2 : tie.Need-returns-2 Inv-loop μ-loop
+returns-2 c =
+    let b = c .before .before in
+    let w = b .loop .inv in
+    let e : at b + 1 ≡ length (s b .mass) = omega (arith, w .0, c .before .loop-test .left) in
+    written-all 0 (movedCell (s b)) (s b .mass) (at b + 1) _
+    (written-more 0 (movedCell (s b)) (s b .mass) (at b) _ _ (w .1) (w .0) (moved-by (s b) (at b) _ _ _ (c .with-share4 .ensures) (w .2) (sym (leftwards-end (s b) (at b + 1) (omega (arith, e))))))
+    e
 
 pub move-mass-spec : {M : Type 1} → statement M
 move-mass-spec =
@@ -186,19 +181,22 @@ move-mass-spec =
     (tie.spec
     Inv-loop
     μ-loop
-    leaving-requires
+    returns
+    shares-at-requires
+    with-share-requires
     loop-holds
-    add-leaving
-    leaving-requires-2
-    mul-moved
-    slice-read-moved
-    add-moved
-    add-moved-2
-    moved-requires
+    add-loop
+    add-shares-at
+    shares-at-requires-2
+    with-share-requires-2
     mul-mass
     slice-write-mass
+    with-share-requires-3
     add-i
     loop-less
     loop-again
+    with-share-requires-4
+    mul-mass-2
+    slice-write-mass-2
     same-length
-    returns)
+    returns-2)

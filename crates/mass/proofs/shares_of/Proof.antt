@@ -1,11 +1,11 @@
--- `mass::shares_of` meets its contract: each share is the floor up to its end less the floor before. Assumes nothing.
+-- `mass::shares_of` meets its contract: each share is the floor up to its end less the floor before, and the last floor is all that left. Assumes nothing.
 use mathlib.Core.Path.{_≡_, refl, ap, _∙_}
 use mathlib.Core.List.{List, [], _∷_}
 use Prim.Native.Nat.{ℕ, _+_, _-_, _*_, _/_, _≤_}
 use native.Mathlib.Nat.{zero-add}
 use native.Mathlib.Omega.{arith}
-use Rattle.numbers.specs.Shares.{share, shares}
-use Rattle.numbers.proofs.SharesLaws.{floor-none, floor-mono}
+use Rattle.numbers.specs.Shares.{share, shares, rest}
+use Rattle.numbers.proofs.SharesLaws.{floor-none, floor-mono, floor-all}
 use borrow.Author.Needs.{needs}
 use Rattle.mass.proofs.shares_of.Statement.{statement}
 use Rattle.mass.proofs.shares_of.Tie as tie
@@ -47,10 +47,16 @@ sub-t10 c =
     let s = c .before .before .before .args in
     omega (arith, c .before .floor-after2 .ensures, c .floor-after3 .ensures, floor-mono (s .m) (s .b) (s .right + s .left) (s .drawn))
 
+sub-t11 : tie.Need-sub-t11
+sub-t11 c =
+    let s = c .before .before .before in
+    omega (arith, c .floor-after3 .ensures, floor-all (s .args .m) (s .args .b) (s .args .right + s .args .left + s .args .drawn) (s .pre .covered))
+
 returns : tie.Need-returns
-returns c = by-floors _ _ _ _ _ _ _ _ (c .before .before .floor-after .ensures) (c .before .floor-after2 .ensures) (c .floor-after3 .ensures)
+unfolding rest
+returns c = (by-floors _ _ _ _ _ _ _ _ (c .before .before .floor-after .ensures) (c .before .floor-after2 .ensures) (c .floor-after3 .ensures), ap (λ (x : ℕ). c .before .before .before .args .m - x) (c .floor-after3 .ensures))
 
 pub shares-of-spec : {M : Type 1} → statement M
 shares-of-spec =
     tie.close
-    (tie.spec floor-after-requires floor-after-requires-2 add-floor-after floor-after-requires-3 sub-t9 sub-t10 returns)
+    (tie.spec floor-after-requires floor-after-requires-2 add-floor-after floor-after-requires-3 sub-t9 sub-t10 sub-t11 returns)

@@ -84,7 +84,7 @@ loop-holds : tie.Need-loop-holds Inv-loop μ-loop
 loop-holds c = (omega arith, written-none _ _ _, added-none _ _ _)
 
 abbrev entry : tie.In-loop Inv-loop μ-loop → tie.Start Inv-loop μ-loop
-entry c = c .before .before .before .before .before
+entry c = c .before .before .before .before .before .before .before
 
 abbrev ready : (c : tie.In-loop Inv-loop μ-loop) → (let a = entry c .args in OutletsReady (now (a .mass)) (now (a .base)) (now (a .carried)) (a .outlets))
 ready c = entry c .pre
@@ -187,16 +187,25 @@ loop-again c =
       added-more (a .outlets .list) (amounts (a .outlets .list)) none at (k .before .loop .before) _ (w .2) (inside k .1) (ap (λ (x : ℕ). getD (k .before .loop .before) (o .cell) 0 + x) (sym drawn)),
     )
 
-returns : tie.Need-returns Inv-loop μ-loop
+-- the list as the loop leaves it, with all outlets passed
+all-moved : (s : tie.Start Inv-loop μ-loop) (k : ℕ) (list : List Outlet) → (let a = s .args in let f = movedOutlet (columns (now (a .mass)) (now (a .base)) (now (a .carried)) (a .outlets .count) (a .outlets .list)) (a .outlets) in
+    Written noOutlet f (a .outlets .list) k list → k ≡ a .outlets .count
+    → record { count = a .outlets .count; list = list } ≡ movedOutlets (massColumns (now (a .mass)) (now (a .base)) (now (a .carried)) (drawnFrom (a .outlets)) 0 0) (a .outlets))
 unfolding movedOutlets eachOutlet
-returns c =
-    let a = c .before .before .before .before .before .args in
-    let w = c .before .loop .inv in
+all-moved s k list w all =
+    let a = s .args in
     let f = movedOutlet (columns (now (a .mass)) (now (a .base)) (now (a .carried)) (a .outlets .count) (a .outlets .list)) (a .outlets) in
-    let all : c .before .loop .k ≡ a .outlets .count = omega (arith, w .0, c .loop-test .left) in
     ap (λ (l : List Outlet). record { count = a .outlets .count; list = l })
-    (written-below noOutlet f (a .outlets .list) (c .before .loop .k) (c .before .loop .list) (w .1)
-    ∙ ap₂ (λ (m n : ℕ). tabulate m (λ j. cond (ltb j n) (f j) (outletAt (a .outlets) j))) (list-long (c .before .before .before .before .before)) all)
+    (written-below noOutlet f (a .outlets .list) k list w
+    ∙ ap₂ (λ (m n : ℕ). tabulate m (λ j. cond (ltb j n) (f j) (outletAt (a .outlets) j))) (list-long s) all)
+
+returns : tie.Need-returns Inv-loop μ-loop
+returns c = let s = c .before .before .before .before in all-moved s 0 (s .args .outlets .list) (written-none _ _ _) (sym (c .if1 .taken))
+
+returns-2 : tie.Need-returns-2 Inv-loop μ-loop
+returns-2 c =
+    let w = c .before .loop .inv in
+    all-moved (c .before .before .before .before .before .before .before) (c .before .loop .k) (c .before .loop .list) (w .1) (omega (arith, w .0, c .loop-test .left))
 
 pub move-outlets-spec : {M : Type 1} → statement M
 move-outlets-spec =
@@ -204,6 +213,7 @@ move-outlets-spec =
     (tie.spec
     Inv-loop
     μ-loop
+    returns
     loop-holds
     mul-o
     array-copy-out-o
@@ -221,4 +231,4 @@ move-outlets-spec =
     add-k
     loop-less
     loop-again
-    returns)
+    returns-2)
