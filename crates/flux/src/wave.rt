@@ -35,7 +35,7 @@ pub fn wave_near(h: u64, guess: u64) -> u64
     let mut last = guess;
     let mut a = heron(y, last);
     // a step that went far may end far above
-    while a + 32 < last {
+    while a + 128 < last {
         last = a;
         a = heron(y, last);
     }

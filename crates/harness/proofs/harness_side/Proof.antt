@@ -23,7 +23,7 @@ left-part-requires c κs = search needs
 
 fluxes-of-requires : tie.Need-fluxes-of-requires
 fluxes-of-requires c κs =
-    let s = c .before .before .before in
+    let s = c .before .before .before .before .before in
     let f = s .fits .u in
     let k = abs-parts (s .args .u) in
     let r = rw (toZ-ofZ f) at (c .before .right-part .ensures) in
@@ -42,7 +42,7 @@ still-thrust-requires c κs = search needs
 
 returns : tie.Need-returns
 returns c =
-    let s = c .before .before .before .before .before in
+    let s = c .before .before .before .before .before .before .before in
     let f = s .fits .u in
     let u = s .args .u in
     let r = rw (toZ-ofZ f) at (c .before .before .before .right-part .ensures) in
