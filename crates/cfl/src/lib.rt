@@ -11,7 +11,7 @@ use flux::wave::wave_speed;
 use numbers::root::root_table;
 
 // |u|+a of one cell, mm/s
-pub fn signal_speed(h: u64, q: i64, roots: &[u16; 65]) -> u64
+pub fn signal_speed(h: u64, q: i64, roots: &[u16; 64]) -> u64
     requires { ⌜ Flowing h q × RootTable (now roots) ⌝ }
     ensures { λ r. ⌜ (r ≡ signalSpeed h q) × (r ≤ 16_000) ⌝ }
 {

@@ -8,7 +8,7 @@ ghost use Rattle.flux.specs.Wave.{waveSpeed};
 use numbers::root::square_root_ceil;
 
 // a(h), mm/s, of a depth in micrometres
-pub fn wave_speed(h: u64, roots: &[u16; 65]) -> u64
+pub fn wave_speed(h: u64, roots: &[u16; 64]) -> u64
     requires { ⌜ (h ≤ depthMost) × RootTable (now roots) ⌝ }
     ensures { λ r. ⌜ r ≡ waveSpeed h ⌝ }
 {
@@ -18,7 +18,7 @@ pub fn wave_speed(h: u64, roots: &[u16; 65]) -> u64
     square_root_ceil((14_709_975 * h + 999_999) / 1_000_000, roots)
 }
 
-// One step of Heron's rule for the root of y / 1,000,000, rounded down: from anywhere it ends at most one below the root
+// One step of Heron's rule for the root of y / 1,000,000, rounded down: it ends at most one below the root. That the start is no lower bounds the quotient.
 fn heron(y: u64, a: u64) -> u64
     requires { ⌜ ((0 < a) × (a ≤ waveMost)) × (y ≤ 1_000_000 * ((a + 1) * (a + 1))) ⌝ }
     ensures { λ r. ⌜ (y ≤ 1_000_000 * ((r + 1) * (r + 1))) × (r ≤ a + 1) ⌝ }
@@ -26,7 +26,7 @@ fn heron(y: u64, a: u64) -> u64
     (a + y / (1_000_000 * a)) / 2
 }
 
-// a(h) again, from the wave speed of a greater depth: steps of Heron's rule, nearly always one, then down
+// a(h) again, from the wave speed of a greater depth: steps of Heron's rule, one where the depths are near, then down
 pub fn wave_near(h: u64, guess: u64) -> u64
     requires { ⌜ ((0 < h) × (h ≤ depthMost)) × ((waveSpeed h ≤ guess) × (guess ≤ waveMost)) ⌝ }
     ensures { λ r. ⌜ r ≡ waveSpeed h ⌝ }

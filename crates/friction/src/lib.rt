@@ -37,7 +37,7 @@ pub fn conveyance_squared(f: u64, h: u64, roots: &[u16; 401]) -> u64
 }
 
 // E of a speed v
-pub fn drag_of(t: u64, v: u64) -> u64
+fn drag_of(t: u64, v: u64) -> u64
     requires { ⌜ (t ≤ timeStepMost) × (v ≤ velocityMost) ⌝ }
     ensures { λ r. ⌜ (r ≡ drag t v) × (r ≤ dragMost) ⌝ }
 {

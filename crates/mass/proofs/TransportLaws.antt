@@ -68,11 +68,6 @@ module _ (s : MassColumns) where
   pub outlet-share-is : (i k : ℕ) → outletShare s i k ≡ getD (outletShares i) k 0
   outlet-share-is i k = ap (λ (l : List ℕ). getD l (suc (suc k)) 0) (by-outlets i)
 
-  -- where one part stands for all outlets
-  pub drawn-alone : (i : ℕ) {d : ℕ} → s .drawn i ≡ d ∷ [] → outletShare s i 0 ≡ drawnMass i
-  unfolding drawnMass shares sum
-  drawn-alone i {d} e = outlet-share-is i 0 ∙ rw e (omega arith)
-
   -- the shares of a cell are these
   three-shares : (i : ℕ) → sum (cellShares s i) ≡ rightShare s i + leftShare s i + drawnMass i
   unfolding sum drawnMass
@@ -253,10 +248,6 @@ module _ (m m₀ b : List ℕ) (c : List ℤ) (d : ℕ → List ℕ) (x x₀ y :
   pub shares-same : (j : ℕ) → getD m j 0 ≡ getD m₀ j 0 → cellShares (massColumns m b c d x y) j ≡ cellShares (massColumns m₀ b c d x₀ y) j
   unfolding cellShares
   shares-same j e = rw e refl
-
-  pub leftwards-same : (j : ℕ) → getD m j 0 ≡ getD m₀ j 0 → leftwards (massColumns m b c d x y) j ≡ leftwards (massColumns m₀ b c d x₀ y) j
-  unfolding leftwards cellShares
-  leftwards-same j e = rw (e, long) refl
 
 -- ---- What leaves a cell, and what stays in it, does not depend on what enters over the boundaries.
 module _ (s : MassColumns) where

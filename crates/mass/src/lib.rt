@@ -7,7 +7,7 @@ ghost use Prim.Native.Nat.{_+_, _-_, _*_, _/_, _≤_, _<_};
 ghost use lib.ListN.{length, getD};
 ghost use Rattle.numbers.specs.Shares.{shares, rest};
 ghost use Rattle.reach.specs.Ranges.{alone};
-ghost use Rattle.mass.specs.Transport.{massColumns, cellShares, cellOutflow, rightShare, outletShare, leftwards};
+ghost use Rattle.mass.specs.Transport.{massColumns, cellShares, cellOutflow};
 ghost use Rattle.mass.specs.Ranges.{Giving, ReadyAt, Ready, massMost, movedMass};
 use numbers::signed::left_part;
 use numbers::signed::right_part;
@@ -50,7 +50,8 @@ fn shares_of(m: u64, b: u64, right: u64, left: u64, drawn: u64) -> Shares
     }
 }
 
-fn shares_at(mass: &[u64], base: &[u64], carried: &[i64], drawn: &[u64], i: usize) -> Shares
+// The shares of cell i
+pub fn shares_at(mass: &[u64], base: &[u64], carried: &[i64], drawn: &[u64], i: usize) -> Shares
     requires { ⌜ ReadyAt (massColumns (now mass) (now base) (now carried) (alone (now drawn)) 0 0) i ⌝ }
     requires { ⌜ (i < length (now mass)) × (length (now mass) ≤ length (now drawn)) ⌝ }
     ensures { λ r. ⌜ r .right ∷ r .left ∷ r .drawn ∷ [] ≡ cellShares (massColumns (now (mass .entry)) (now (base .entry)) (now (carried .entry)) (alone (now (drawn .entry))) 0 0) i ⌝ }
@@ -63,32 +64,6 @@ fn shares_at(mass: &[u64], base: &[u64], carried: &[i64], drawn: &[u64], i: usiz
         left_part(carried[i]),
         drawn[i],
     )
-}
-
-// The shares of cell i; past the last cell, what enters over the right boundary goes left
-pub fn leaving(
-    mass: &[u64],
-    base: &[u64],
-    carried: &[i64],
-    drawn: &[u64],
-    right_in: u64,
-    i: usize,
-) -> Shares
-    requires { ⌜ ReadyAt (massColumns (now mass) (now base) (now carried) (alone (now drawn)) 0 «right_in») i ⌝ }
-    requires { ⌜ (i ≤ length (now mass)) × (length (now mass) ≤ length (now drawn)) ⌝ }
-    ensures { λ r. ⌜ r .left ≡ leftwards (massColumns (now (mass .entry)) (now (base .entry)) (now (carried .entry)) (alone (now (drawn .entry))) 0 «right_in») i ⌝ }
-    ensures { λ r. ⌜ (i < length (now (mass .entry)) → r .right ≡ rightShare (massColumns (now (mass .entry)) (now (base .entry)) (now (carried .entry)) (alone (now (drawn .entry))) 0 «right_in») i) ⌝ }
-    ensures { λ r. ⌜ (i < length (now (mass .entry)) → r .drawn ≡ outletShare (massColumns (now (mass .entry)) (now (base .entry)) (now (carried .entry)) (alone (now (drawn .entry))) 0 «right_in») i 0) ⌝ }
-{
-    if i < mass.len() {
-        return shares_at(mass, base, carried, drawn, i);
-    }
-    Shares {
-        right: 0,
-        left: right_in,
-        drawn: 0,
-        rest: 0,
-    }
 }
 
 // What a cell holds with a share that has come

@@ -5,5 +5,5 @@ use lib.ListN.{getD}
 
 -- the entry of k is at most 4,096·√k
 pub record RootTable (list : List ℕ) : Type 0 where
-  pub below : (k : ℕ) → k ≤ 64 → getD list k 0 * getD list k 0 ≤ k * 16_777_216
-  pub most : (k : ℕ) → k ≤ 64 → getD list k 0 ≤ 32_768
+  pub below : (k : ℕ) → k ≤ 63 → getD list k 0 * getD list k 0 ≤ k * 16_777_216
+  pub most : (k : ℕ) → k ≤ 63 → getD list k 0 ≤ 32_768

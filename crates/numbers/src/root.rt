@@ -1,11 +1,11 @@
-// The whole square root, rounded up, of a number of at most 2^26.
+// The whole square root, rounded up, of a number of at most 63·2^20.
 ghost use mathlib.Core.Path.{_≡_};
 ghost use Prim.Native.Nat.{_+_, _*_, _≤_, _<_};
 ghost use Rattle.numbers.specs.Root.{squareRootCeil};
 ghost use Rattle.numbers.specs.Table.{RootTable};
 
-// floor(4,096·√k) for k = 0..64
-const ROOTS: [u16; 65] = [
+// floor(4,096·√k) for k = 0..63
+const ROOTS: [u16; 64] = [
     0,
     4096,
     5792,
@@ -70,11 +70,10 @@ const ROOTS: [u16; 65] = [
     31990,
     32251,
     32510,
-    32768,
 ];
 
 // The table, taken once for many roots: a constant array is built anew wherever it is named
-pub fn root_table() -> [u16; 65]
+pub fn root_table() -> [u16; 64]
     ensures { λ r. ⌜ RootTable r ⌝ }
 {
     ROOTS
@@ -87,26 +86,26 @@ fn wide(x: u16) -> u64
 }
 
 // 4,096·span times the point at rest/span of the chord of the root from k to k + 1. A chord of the root lies below it.
-fn chord(k: usize, rest: u64, span: u64, roots: &[u16; 65]) -> u64
-    requires { ⌜ ((k < 64) × ((rest ≤ span) × (span ≤ 1_048_576))) × RootTable (now roots) ⌝ }
+fn chord(k: usize, rest: u64, span: u64, roots: &[u16; 64]) -> u64
+    requires { ⌜ ((k < 63) × ((rest ≤ span) × (span ≤ 1_048_576))) × RootTable (now roots) ⌝ }
     ensures { λ r. ⌜ r * r ≤ span * (16_777_216 * (k * span + rest)) ⌝ }
 {
     (span - rest) * wide(roots[k]) + rest * wide(roots[k + 1])
 }
 
 // A number at most the root of x, and for every wave speed of the model at most 4 below it.
-// The four spans are squares, so that each quotient is a shift. The deepest water is asked for first.
-fn below_root(x: u64, roots: &[u16; 65]) -> u64
-    requires { ⌜ (x < 67_108_864) × RootTable (now roots) ⌝ }
+// The four spans are squares, so that each quotient is a shift, and each range ends at 63 of them. The deepest water is asked for first.
+fn below_root(x: u64, roots: &[u16; 64]) -> u64
+    requires { ⌜ (x < 66_060_288) × RootTable (now roots) ⌝ }
     ensures { λ r. ⌜ r * r ≤ x ⌝ }
 {
-    if 16_777_216 <= x {
+    if 16_515_072 <= x {
         return chord((x / 1_048_576) as usize, x % 1_048_576, 1_048_576, roots) / 4_194_304;
     }
-    if 1_048_576 <= x {
+    if 1_032_192 <= x {
         return chord((x / 262_144) as usize, x % 262_144, 262_144, roots) / 2_097_152;
     }
-    if 16_384 <= x {
+    if 16_128 <= x {
         return chord((x / 16_384) as usize, x % 16_384, 16_384, roots) / 524_288;
     }
     chord((x / 256) as usize, x % 256, 256, roots) / 65_536
@@ -122,8 +121,8 @@ fn raised(x: u64, a: u64) -> u64
 }
 
 // The least whole number whose square is at least x: raised from below to the first that need not be raised.
-pub fn square_root_ceil(x: u64, roots: &[u16; 65]) -> u64
-    requires { ⌜ (x ≤ 67_108_864) × RootTable (now roots) ⌝ }
+pub fn square_root_ceil(x: u64, roots: &[u16; 64]) -> u64
+    requires { ⌜ (x ≤ 66_060_288) × RootTable (now roots) ⌝ }
     ensures { λ r. ⌜ r ≡ squareRootCeil x ⌝ }
 {
     if x == 0 {

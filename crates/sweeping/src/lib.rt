@@ -60,7 +60,7 @@ fn right_side(
     boundary: Boundary,
     before: SideState,
     i: usize,
-    roots: &[u16; 65],
+    roots: &[u16; 64],
 ) -> SideState
     requires { ⌜ (length (now depth) ≡ length (now bed)) × (length (now discharge) ≡ length (now bed)) ⌝ }
     requires { ⌜ (i < length (now bed) → InRange (getD (now bed) i (pos 0)) (getD (now depth) i 0) (getD (now discharge) i (pos 0))) ⌝ }

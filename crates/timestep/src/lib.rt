@@ -32,7 +32,7 @@ pub struct GreatestAnswer {
 }
 
 // |u|+a of a boundary at the place p beside the cell c; one that is not fed counts as 0
-pub fn boundary_speed(p: BoundaryPlace, e: Boundary, c: SideState, roots: &[u16; 65]) -> u64
+pub fn boundary_speed(p: BoundaryPlace, e: Boundary, c: SideState, roots: &[u16; 64]) -> u64
     requires { ⌜ SideStateFits c × ((e .depth ≤ depthMost) × (natAbs (e .discharge) ≤ velocityMost * e .depth)) ⌝ }
     requires { ⌜ RootTable (now roots) ⌝ }
     ensures { λ r. ⌜ r ≡ boundarySpeed p e (sideOf c) ⌝ }

@@ -15,9 +15,9 @@ ghost use Rattle.reach.specs.Grounds.{ledgerFits, allTotalsFit, firstRefusal, r
 ghost use Rattle.reach.specs.declared.refusal.Check.the-variants.{Pass};
 ghost use Rattle.transport.specs.Calls.{withMass, ledgerWith, setBoundaries, transport as transportOf, CameTo};
 ghost use Rattle.transport.specs.Ranges.{massColumnsWith, BoundaryMassOf, Small, answer};
-use mass::leaving;
 use mass::move_mass;
 use mass::outlets::move_outlets;
+use mass::shares_at;
 use numbers::columns::clear_column;
 use numbers::columns::copy_column;
 use numbers::signed::left_part;
@@ -71,8 +71,8 @@ pub fn boundary_mass_of(
     let n = mass.len();
     let left_in = right_part(carried[0]) * boundaries[0].concentration;
     let right_in = left_part(carried[n]) * boundaries[1].concentration;
-    let first = leaving(mass, base, carried, drawn, right_in, 0);
-    let last = leaving(mass, base, carried, drawn, right_in, n - 1);
+    let first = shares_at(mass, base, carried, drawn, 0);
+    let last = shares_at(mass, base, carried, drawn, n - 1);
     BoundaryMass {
         left_in,
         left_out: first.left,

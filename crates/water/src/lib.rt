@@ -1,7 +1,7 @@
 // The water of a step (document 01, 'A water step'): what a cell or a boundary shows at an interface, and what crosses there.
 ghost use mathlib.Core.Path.{_≡_};
 ghost use Prim.Native.Nat.{_*_, _-_, _≤_, _<_};
-ghost use lib.IntN.{pos, _+ℤ_, _-ℤ_, natAbs, subℕ};
+ghost use lib.IntN.{pos, _+ℤ_, _-ℤ_, natAbs};
 ghost use Rattle.numbers.specs.Table.{RootTable};
 ghost use Rattle.flux.specs.Limits.{bedMost, depthMost, velocityMost, timeStepMost};
 ghost use Rattle.flux.specs.Crossing.{stillThrust};
@@ -33,7 +33,7 @@ pub struct SideState {
     pub left: u64,
 }
 
-pub fn cell_state(z: i64, h: u64, q: i64, roots: &[u16; 65]) -> SideState
+pub fn cell_state(z: i64, h: u64, q: i64, roots: &[u16; 64]) -> SideState
     requires { ⌜ (natAbs z ≤ bedMost) × ((h ≤ depthMost) × (natAbs q ≤ velocityMost * h)) ⌝ }
     requires { ⌜ RootTable (now roots) ⌝ }
     ensures { λ r. ⌜ SideStateFits r × (sideOf r ≡ record { bed = z; depth = h; velocity = velocity h q }) ⌝ }
@@ -49,7 +49,7 @@ pub fn cell_state(z: i64, h: u64, q: i64, roots: &[u16; 65]) -> SideState
 }
 
 // What a boundary at the place p shows beside the cell c
-pub fn boundary_state(p: BoundaryPlace, e: Boundary, c: SideState, roots: &[u16; 65]) -> SideState
+pub fn boundary_state(p: BoundaryPlace, e: Boundary, c: SideState, roots: &[u16; 64]) -> SideState
     requires { ⌜ SideStateFits c × ((e .depth ≤ depthMost) × (natAbs (e .discharge) ≤ velocityMost * e .depth)) ⌝ }
     requires { ⌜ RootTable (now roots) ⌝ }
     ensures { λ r. ⌜ SideStateFits r × (sideOf r ≡ boundarySide p e (sideOf c)) ⌝ }
@@ -138,7 +138,7 @@ pub fn exchange_level(t: u64, x: u64, l: SideState, r: SideState) -> Exchange
 }
 
 // z, moved to the nearest value in −most..most
-pub fn nearest_to(z: i64, most: u64) -> i64
+fn nearest_to(z: i64, most: u64) -> i64
     requires { ⌜ most < 9_223_372_036_854_775_808 ⌝ }
     ensures { λ r. ⌜ r ≡ nearest most z ⌝ }
 {

@@ -11,7 +11,7 @@ pub fn opponents_agree(r: &mut Random) {
         let any = r.below(1_002);
         let times = [most, most, most, most + 1, any];
         let mut list: Vec<(Record, u64)> = times.map(|t| (sound.clone(), t)).into();
-        // they take no outlets, so what is broken by those of a list that is sound is left out
+        // they refuse every list on ground 16, so a record with one that breaks a later ground is left out
         let broken = broken(r, &sound).into_iter();
         let broken = broken.filter(|b| b.record.outlets.is_empty() || ![8, 9].contains(&b.ground));
         list.extend(broken.map(|b| (b.record, most)));

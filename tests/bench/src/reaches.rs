@@ -60,7 +60,7 @@ pub fn uneven(r: &mut Random, cells: usize) -> Record {
     flow_over(r, cells, 20_000)
 }
 
-/// Neighbours differ by up to the depth, so that the reduced depths are anything.
+/// Neighbours differ by up to 1.6 m, so that the reduced depths are anything.
 pub fn drops(r: &mut Random, cells: usize) -> Record {
     flow_over(r, cells, 800_000)
 }

@@ -1,6 +1,6 @@
 -- `mass::move_mass` meets its contract: what crosses the next interface is known before a cell is written, and a cell that is not
 -- written yet is read as it came. Assumes nothing.
-use mathlib.Core.Path.{_≡_, refl, sym, ap, _∙_}
+use mathlib.Core.Path.{_≡_, sym, ap, _∙_}
 use mathlib.Core.List.{[], _∷_}
 use denote.Ref.{now}
 use Prim.Native.Nat.{ℕ, _+_, _-_, _≤_, _<_}

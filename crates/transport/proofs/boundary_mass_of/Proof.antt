@@ -1,5 +1,5 @@
 -- `transport::boundary_mass_of` meets its contract. Assumes nothing.
-use mathlib.Core.Path.{_≡_, refl, sym, ap, _∙_}
+use mathlib.Core.Path.{_≡_, sym, ap, _∙_}
 use denote.Ref.{now}
 use Prim.Native.Nat.{ℕ, _+_, _-_, _*_, _≤_, _<_}
 use native.Mathlib.Omega.{arith}
@@ -7,8 +7,8 @@ use lib.ListN.{length}
 use mir.Facts.{toZ-ofZ, fits-below}
 use borrow.Author.Needs.{sfits-of}
 use Rattle.mass.specs.Transport.{MassColumns, rightwards}
-use Rattle.mass.proofs.TransportLaws.{ready-same, leftwards-same, shares-same, rightwards-next}
-use Rattle.reach.specs.Parts.{rightOf}
+use Rattle.mass.proofs.TransportLaws.{ready-inside, shares-inside, leftwards-cell, rightwards-next}
+use Rattle.reach.specs.Parts.{leftOf, rightOf}
 use Rattle.reach.specs.Ranges.{alone}
 use Rattle.reach.specs.Reach.{leftBoundary, rightBoundary}
 use Rattle.transport.specs.Ranges.{massColumnsWith}
@@ -65,18 +65,18 @@ element-copy-out-right-in c = search needs
 mul-right-in : tie.Need-mul-right-in
 mul-right-in c = rw (right-in c) (fits-below tt (second c .pre .0 .each 0 .entering))
 
-leaving-requires : tie.Need-leaving-requires
-leaving-requires c κs =
+shares-at-requires : tie.Need-shares-at-requires
+shares-at-requires c κs =
     let s = second c in
-    (rw (right-in c) (ready-same _ _ _ _ _ 0 _ _ refl 0 refl (s .pre .0 .each 0)), (omega arith, s .pre .1 .1))
+    (ready-inside (col s) 0 (s .pre .0 .each 0), (omega arith, s .pre .1 .1))
 
-sub-leaving : tie.Need-sub-leaving
-sub-leaving c = search needs
+sub-shares-at : tie.Need-sub-shares-at
+sub-shares-at c = search needs
 
-leaving-requires-2 : tie.Need-leaving-requires-2
-leaving-requires-2 c κs =
+shares-at-requires-2 : tie.Need-shares-at-requires-2
+shares-at-requires-2 c κs =
     let s = second (c .before) in
-    (rw (right-in (c .before)) (ready-same _ _ _ _ _ 0 _ _ refl _ refl (s .pre .0 .each _)), (omega arith, s .pre .1 .1))
+    (ready-inside (col s) _ (s .pre .0 .each _), (omega arith, s .pre .1 .1))
 
 returns : tie.Need-returns
 returns c =
@@ -86,13 +86,9 @@ returns c =
     let last : n - 1 + 1 ≡ n = omega arith in
     record {
       left-in = left-in (c .before .before .before .before);
-      left-out = (rw (right-in (c .before .before)) at (c .before .leaving .ensures .0)) ∙ leftwards-same _ _ _ _ _ 0 (x .leftIn) _ refl 0 refl;
+      left-out = ap leftOf (c .before .shares-at .ensures .0 ∙ shares-inside x 0) ∙ sym (leftwards-cell x 0 (omega arith));
       right-in = right-in (c .before .before);
-      right-out =
-          (rw (right-in (c .before .before)) at (c .leaving2 .ensures .1 .0 (omega arith)))
-          ∙ ap rightOf (shares-same _ _ _ _ _ 0 (x .leftIn) (x .rightIn) refl (n - 1) refl)
-          ∙ sym (rightwards-next x (n - 1))
-          ∙ ap (rightwards x) last;
+      right-out = ap rightOf (c .shares-at2 .ensures .0 ∙ shares-inside x (n - 1)) ∙ sym (rightwards-next x (n - 1)) ∙ ap (rightwards x) last;
     }
 
 pub boundary-mass-of-spec : {M : Type 1} → statement M
@@ -108,7 +104,7 @@ boundary-mass-of-spec =
     left-part-requires
     element-copy-out-right-in
     mul-right-in
-    leaving-requires
-    sub-leaving
-    leaving-requires-2
+    shares-at-requires
+    sub-shares-at
+    shares-at-requires-2
     returns)

@@ -1,5 +1,5 @@
 -- `water::discharge_after` meets its contract. Assumes nothing.
-use mathlib.Core.Path.{_≡_, ap, _∙_}
+use mathlib.Core.Path.{ap, _∙_}
 use Prim.Native.Nat.{_*_}
 use mir.Facts.{toZ-ofZ}
 use Rattle.flux.specs.Limits.{velocityMost}

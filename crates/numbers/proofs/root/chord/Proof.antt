@@ -11,7 +11,7 @@ use Rattle.numbers.proofs.RootLaws.{chord-below}
 use Rattle.numbers.proofs.root.chord.Statement.{statement}
 use Rattle.numbers.proofs.root.chord.Tie as tie
 
-rule : {list : List ℕ} → RootTable list → (k r : ℕ) → k ≤ 64 → r ≡ getD list k 0 → (r * r ≤ k * 16_777_216) × (r ≤ 32_768)
+rule : {list : List ℕ} → RootTable list → (k r : ℕ) → k ≤ 63 → r ≡ getD list k 0 → (r * r ≤ k * 16_777_216) × (r ≤ 32_768)
 rule t k r l e = rw e (t .below k l, t .most k l)
 
 first : (c : tie.After-wide) →

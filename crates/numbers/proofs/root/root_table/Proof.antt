@@ -17,10 +17,10 @@ use Rattle.numbers.proofs.root.root_table.Tie as tie
 fits : ℕ → ℕ → Bool
 fits k r = allOf (leb (r * r) (k * 16_777_216) ∷ leb r 32_768 ∷ [])
 
-rule : (roots : List ℕ) → allBelow 65 (λ k. fits k (getD roots k 0)) ≡ true → RootTable roots
+rule : (roots : List ℕ) → allBelow 64 (λ k. fits k (getD roots k 0)) ≡ true → RootTable roots
 unfolding fits
 rule roots all-fit =
-    let at-k : (k : ℕ) → k ≤ 64 → fits k (getD roots k 0) ≡ true = λ k l. all-at (λ k. fits k (getD roots k 0)) 65 k all-fit (omega (arith, l)) in
+    let at-k : (k : ℕ) → k ≤ 63 → fits k (getD roots k 0) ≡ true = λ k l. all-at (λ k. fits k (getD roots k 0)) 64 k all-fit (omega (arith, l)) in
     record {
       below = λ k l. leb-true _ _ (all-of _ (at-k k l) 0);
       most = λ k l. leb-true _ _ (all-of _ (at-k k l) 1);

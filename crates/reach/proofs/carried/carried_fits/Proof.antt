@@ -1,11 +1,10 @@
 -- `reach::carried::carried_fits` meets its contract: each test by the parts of its sides, then `too-far`, `uncovered` and `covered`. Assumes nothing.
 use mathlib.Core.Path.{_≡_, sym, _∙_}
-use mathlib.Core.Bool.{true, false}
-use mathlib.Core.List.{[], _∷_}
+use mathlib.Core.Bool.{true}
 use mathlib.Core.Logic.{⊎-elim}
-use Prim.Native.Nat.{ℕ, _+_, _≤_}
+use Prim.Native.Nat.{_+_, _≤_}
 use native.Mathlib.Omega.{arith}
-use lib.Dec.{leb, eqb}
+use lib.Dec.{leb}
 use lib.IntN.{ℤ, pos, _+ℤ_, _-ℤ_, negℤ, natAbs}
 use mir.Syntax.{w64}
 use mir.Val.{SFits, toZ, ofZ}
@@ -14,7 +13,6 @@ use borrow.Author.Needs.{needs}
 use borrow.Author.Tests.{not-true, not-false, leb-true}
 use Rattle.numbers.proofs.SignedLaws.{R, L, abs-parts, abs-add, abs-neg, mag-abs, one-part, add-cross, minus-cross, pos-cross, ltZ-true, ltZ-false}
 use Rattle.reach.specs.Limits.{carriedMost}
-use Rattle.reach.specs.Grounds.{carriedFits}
 use Rattle.reach.proofs.CarriedLaws.{crossed-test, word-is, too-far, uncovered, covered}
 use Rattle.reach.proofs.carried.carried_fits.Statement.{statement}
 use Rattle.reach.proofs.carried.carried_fits.Tie as tie
