@@ -1,5 +1,6 @@
 pub mod DealLaws
 pub mod IndexLaws
+pub mod QuotientLaws
 pub mod RootLaws
 pub mod SearchLaws
 pub mod SharesLaws

@@ -5,3 +5,4 @@ pub mod Root
 pub mod Shares
 pub mod Signed
 pub mod Table
+pub mod Quotient
