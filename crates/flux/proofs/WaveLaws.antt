@@ -1,12 +1,12 @@
 -- What the crates above know of the wave speed: it is monotone, positive for a wet cell, small, and the least whole number not below √(3gh/2). Assumes nothing.
 use mathlib.Core.Path.{_≡_, refl}
 use Prim.Native.Nat.{ℕ, _+_, _*_, _≤_, _<_}
-use native.Mathlib.Nat.{mul-le-mul, mul-le-mul-left, le-antisymm, lt-of-not-le}
+use native.Mathlib.Nat.{mul-le-mul, le-antisymm, lt-of-not-le}
 use native.Mathlib.Omega.{arith}
 use lib.Dec.{lit≤}
 use Rattle.numbers.specs.Root.{squareRootCeil}
 use Rattle.numbers.proofs.SearchLaws.{reaching-meets, reaching-least}
-use Rattle.numbers.proofs.RootLaws.{square-lt, le-square, square-root-meets, square-root-least, twice-product}
+use Rattle.numbers.proofs.RootLaws.{le-square, square-root-meets, square-root-least}
 use Rattle.flux.specs.Wave.{waveSpeed}
 use Rattle.flux.specs.Limits.{depthMost}
 use Rattle.flux.specs.Ranges.{waveMost}
@@ -32,16 +32,6 @@ wave-speed-dry = omega (arith, wave-speed-least 0 0 (lit≤ tt))
 
 pub wave-speed-most : (h : ℕ) → h ≤ depthMost → waveSpeed h ≤ waveMost
 wave-speed-most h l = omega (arith, wave-speed-mono h depthMost l, wave-speed-least depthMost 7_671 (lit≤ tt))
-
--- and the only one: a search ends in this law
-pub wave-speed-is : (h a : ℕ) → 1_000_000 * (a * a) < 14_709_975 * h → 14_709_975 * h ≤ 1_000_000 * ((a + 1) * (a + 1)) → waveSpeed h ≡ a + 1
-wave-speed-is h a m l =
-    omega (arith, wave-speed-least h (a + 1) l, square-lt a (waveSpeed h) (omega (arith, m, wave-speed-meets h)))
-
--- one step of Heron's rule from any g, rounded down, ends at most one below the root of y/s: its square is at least the product of the parts it is the mean of
-pub heron-above : (s y g q a : ℕ) → y < s * g * (q + 1) → g + q < 2 * (a + 1) → y ≤ s * ((a + 1) * (a + 1))
-heron-above s y g q a l m =
-    omega (arith, l, mul-le-mul-left s (twice-product g (q + 1)), mul-le-mul-left s (mul-le-mul m m))
 
 -- it is the root, rounded up, of the quotient rounded up
 pub wave-speed-root : (h x : ℕ) → 14_709_975 * h ≤ 1_000_000 * x → 1_000_000 * x < 14_709_975 * h + 1_000_000 → waveSpeed h ≡ squareRootCeil x

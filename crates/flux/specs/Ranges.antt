@@ -1,6 +1,8 @@
 -- Not the paper's: what the inner functions require and give. A reader of the model may skip this file.
 use mathlib.Core.Path.{_≡_}
 use Prim.Native.Nat.{ℕ, _+_, _*_, _≤_, _<_}
+use Rattle.numbers.specs.Quotient.{DivisorFits}
+use Rattle.numbers.specs.declared.quotient.Divisor.{Divisor}
 use Rattle.flux.specs.Limits.{depthMost, velocityMost, timeStepMost, cellLengthLeast, cellLengthMost}
 use Rattle.flux.specs.Wave.{waveSpeed}
 
@@ -16,6 +18,11 @@ pub record Mesh (t X : ℕ) : Type 0 where
   pub time : t ≤ timeStepMost
   pub least : cellLengthLeast ≤ X
   pub most : X ≤ cellLengthMost
+
+-- 1,000·X, the length of a cell in micrometres, as a divisor
+pub record SpanOf (X : ℕ) (span : Divisor) : Type 0 where
+  pub value-is : span .value ≡ 1_000 * X
+  pub fits : DivisorFits span
 
 -- a depth h with its wave speed a, and a velocity right − left
 pub record Flow (h a right left : ℕ) : Type 0 where

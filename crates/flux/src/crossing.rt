@@ -4,7 +4,9 @@ ghost use Prim.Native.Nat.{_*_, _≤_};
 ghost use lib.IntN.{subℕ};
 ghost use Rattle.flux.specs.Limits.{depthMost, velocityMost};
 ghost use Rattle.flux.specs.Crossing.{upper, lower, waterOf, secondMoment, momentumOf, waterFlux, momentumFlux, stillThrust};
-ghost use Rattle.flux.specs.Ranges.{Mesh, Flow, Spectrum, momentMost, waveMost};
+ghost use Rattle.flux.specs.Ranges.{Mesh, SpanOf, Flow, Spectrum, momentMost, waveMost};
+use numbers::quotient::Divisor;
+use numbers::quotient::quotient;
 use numbers::signed::joined;
 use numbers::signed::right_part;
 
@@ -44,11 +46,11 @@ fn second_moment(a: u64, upper: u64, lower: u64) -> u64
 }
 
 // Q of a given K
-fn momentum_of(t: u64, x: u64, h: u64, k: u64) -> u64
-    requires { ⌜ Mesh t x × ((h ≤ depthMost) × (k ≤ momentMost)) ⌝ }
+fn momentum_of(t: u64, x: u64, span: Divisor, h: u64, k: u64) -> u64
+    requires { ⌜ Mesh t x × (SpanOf x span × ((h ≤ depthMost) × (k ≤ momentMost))) ⌝ }
     ensures { λ r. ⌜ r ≡ momentumOf t x h k ⌝ }
 {
-    h * t * k / (1_000 * x)
+    quotient(h * t * k, span)
 }
 
 // W and Q of one side
@@ -58,8 +60,16 @@ pub struct Fluxes {
 }
 
 // W(h,u) and Q(h,u) of a depth h, its wave speed a and the velocity u = right − left
-pub fn fluxes_of(t: u64, x: u64, h: u64, a: u64, right: u64, left: u64) -> Fluxes
-    requires { ⌜ Mesh t x × Flow h a right left ⌝ }
+pub fn fluxes_of(
+    t: u64,
+    x: u64,
+    span: Divisor,
+    h: u64,
+    a: u64,
+    right: u64,
+    left: u64,
+) -> Fluxes
+    requires { ⌜ Mesh t x × (SpanOf x span × Flow h a right left) ⌝ }
     ensures { λ r. ⌜ (r .water ≡ waterFlux t x h (subℕ right left)) × (r .momentum ≡ momentumFlux t x h (subℕ right left)) ⌝ }
 {
     if h == 0 {
@@ -71,14 +81,14 @@ pub fn fluxes_of(t: u64, x: u64, h: u64, a: u64, right: u64, left: u64) -> Fluxe
     let s = rightgoing_of(a, right, left);
     Fluxes {
         water: water_of(t, x, h, a, s.upper, s.lower),
-        momentum: momentum_of(t, x, h, second_moment(a, s.upper, s.lower)),
+        momentum: momentum_of(t, x, span, h, second_moment(a, s.upper, s.lower)),
     }
 }
 
 // S(h) of a depth h and its wave speed a. At rest A is a and B is 0, so K is a²/6.
-pub fn still_thrust(t: u64, x: u64, h: u64, a: u64) -> u64
-    requires { ⌜ Mesh t x × Flow h a 0 0 ⌝ }
+pub fn still_thrust(t: u64, x: u64, span: Divisor, h: u64, a: u64) -> u64
+    requires { ⌜ Mesh t x × (SpanOf x span × Flow h a 0 0) ⌝ }
     ensures { λ r. ⌜ r ≡ stillThrust t x h ⌝ }
 {
-    2 * momentum_of(t, x, h, a * a / 6)
+    2 * momentum_of(t, x, span, h, a * a / 6)
 }
