@@ -35,7 +35,7 @@ square-root-is a x h k =
 -- ---- a start below the root
 
 -- 2pq ≤ p² + q²
-pub twice-product : (p q : ℕ) → 2 * (p * q) ≤ p * p + q * q
+twice-product : (p q : ℕ) → 2 * (p * q) ≤ p * p + q * q
 twice-product p q = ⊎-elim (up p q) (λ l. omega (arith, up q p l)) (either p q)
   where
     up : (a b : ℕ) → a ≤ b → 2 * (a * b) ≤ a * a + b * b

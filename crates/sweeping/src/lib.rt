@@ -19,6 +19,7 @@ ghost use Rattle.water.specs.Sides.{boundarySide};
 ghost use Rattle.water.specs.Water.{nearest};
 use friction::conveyance_squared;
 use friction::table::four_thirds;
+use numbers::quotient::divisor_of;
 use numbers::root::root_table;
 use numbers::signed::excess;
 use numbers::signed::joined;
@@ -173,16 +174,17 @@ pub fn sweep(
 {
     let n = bed.len();
     let roots = root_table();
+    let span = divisor_of(1_000 * x);
     let mut cell = cell_state(bed[0], depth[0], discharge[0], &roots);
     let beyond = boundary_state(BoundaryPlace::Left, boundaries[0], cell, &roots);
     let mut met = still_meets(still_meets(true, t, x, beyond), t, x, cell);
-    let mut left = exchange_level(t, x, beyond, cell);
+    let mut left = exchange_level(t, x, span, beyond, cell);
     net[0] = net_of(left);
     let powers = four_thirds();
     let mut i = 0;
     while i < n {
         let next = right_side(bed, depth, discharge, boundaries[1], cell, i + 1, &roots);
-        let right = exchange_between(t, x, cell, next);
+        let right = exchange_between(t, x, span, cell, next, &roots);
         let taken = granted_of(depth[i], left, right, given[i]);
         let deep = depth_after(depth[i], left, right, taken);
         met = still_meets(met, t, x, next);

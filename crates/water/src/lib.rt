@@ -5,7 +5,7 @@ ghost use lib.IntN.{pos, _+ℤ_, _-ℤ_, natAbs};
 ghost use Rattle.numbers.specs.Table.{RootTable};
 ghost use Rattle.flux.specs.Limits.{bedMost, depthMost, velocityMost, timeStepMost};
 ghost use Rattle.flux.specs.Crossing.{stillThrust};
-ghost use Rattle.flux.specs.Ranges.{Mesh, Flow};
+ghost use Rattle.flux.specs.Ranges.{Mesh, SpanOf, Flow};
 ghost use Rattle.flux.specs.Velocity.{velocity};
 ghost use Rattle.friction.specs.Friction.{drag, slowedBy};
 ghost use Rattle.friction.specs.Ranges.{conveyanceSquaredMost, pushedMost};
@@ -19,6 +19,7 @@ use flux::interface::reduced_wave;
 use flux::velocity::velocity_parts;
 use flux::wave::wave_speed;
 use friction::slow;
+use numbers::quotient::Divisor;
 use reach::boundary::Boundary;
 use reach::boundary::BoundaryPlace;
 use reach::boundary::OPEN;
@@ -70,14 +71,23 @@ pub fn boundary_state(p: BoundaryPlace, e: Boundary, c: SideState, roots: &[u16;
 }
 
 // S of the whole depth less S of the reduced depth: no quotient where nothing is taken off
-fn thrust_lost(t: u64, x: u64, h: u64, a: u64, reduced: u64, reduced_a: u64) -> u64
-    requires { ⌜ Mesh t x × (Flow h a 0 0 × (Flow reduced «reduced_a» 0 0 × (reduced ≤ h))) ⌝ }
+fn thrust_lost(
+    t: u64,
+    x: u64,
+    span: Divisor,
+    h: u64,
+    a: u64,
+    reduced: u64,
+    reduced_a: u64,
+) -> u64
+    requires { ⌜ Mesh t x × SpanOf x span ⌝ }
+    requires { ⌜ Flow h a 0 0 × (Flow reduced «reduced_a» 0 0 × (reduced ≤ h)) ⌝ }
     ensures { λ r. ⌜ r ≡ stillThrust t x h - stillThrust t x reduced ⌝ }
 {
     if reduced == h {
         return 0;
     }
-    still_thrust(t, x, h, a) - still_thrust(t, x, reduced, reduced_a)
+    still_thrust(t, x, span, h, a) - still_thrust(t, x, span, reduced, reduced_a)
 }
 
 // What crosses an interface: W of the left side rightwards, W of the right side leftwards, P, and what the bed takes of either side's thrust,
@@ -91,8 +101,17 @@ pub struct Exchange {
     pub lost_right: u64,
 }
 
-pub fn exchange_between(t: u64, x: u64, l: SideState, r: SideState) -> Exchange
+// `span` is 1,000·x.
+pub fn exchange_between(
+    t: u64,
+    x: u64,
+    span: Divisor,
+    l: SideState,
+    r: SideState,
+    roots: &[u16; 64],
+) -> Exchange
     requires { ⌜ Mesh t x × (SideStateFits l × SideStateFits r) ⌝ }
+    requires { ⌜ SpanOf x span × RootTable (now roots) ⌝ }
     ensures { λ c. ⌜ ExchangeOf t x (sideOf l) (sideOf r) (c .rightward) (c .leftward) (c .momentum) (c .«lost_left») (c .«lost_right») × ExchangeFits c ⌝ }
 {
     if l.depth + r.depth == 0 {
@@ -106,28 +125,28 @@ pub fn exchange_between(t: u64, x: u64, l: SideState, r: SideState) -> Exchange
     }
     let hl = reduced_depth(l.depth, l.bed, r.bed);
     let hr = reduced_depth(r.depth, r.bed, l.bed);
-    let al = reduced_wave(hl, l.depth, l.wave);
-    let ar = reduced_wave(hr, r.depth, r.wave);
-    let a = fluxes_of(t, x, hl, al, l.right, l.left);
+    let al = reduced_wave(hl, l.depth, l.wave, roots);
+    let ar = reduced_wave(hr, r.depth, r.wave, roots);
+    let a = fluxes_of(t, x, span, hl, al, l.right, l.left);
     // turned round: what the right side sends leftwards is what a mirrored reach would send rightwards
-    let b = fluxes_of(t, x, hr, ar, r.left, r.right);
+    let b = fluxes_of(t, x, span, hr, ar, r.left, r.right);
     Exchange {
         rightward: a.water,
         leftward: b.water,
         momentum: a.momentum + b.momentum,
-        lost_left: thrust_lost(t, x, l.depth, l.wave, hl, al),
-        lost_right: thrust_lost(t, x, r.depth, r.wave, hr, ar),
+        lost_left: thrust_lost(t, x, span, l.depth, l.wave, hl, al),
+        lost_right: thrust_lost(t, x, span, r.depth, r.wave, hr, ar),
     }
 }
 
 // The same between two sides at one bed level, as a boundary and its cell are: no depth is reduced there, and nothing lost
-pub fn exchange_level(t: u64, x: u64, l: SideState, r: SideState) -> Exchange
+pub fn exchange_level(t: u64, x: u64, span: Divisor, l: SideState, r: SideState) -> Exchange
     requires { ⌜ Mesh t x × (SideStateFits l × SideStateFits r) ⌝ }
-    requires { ⌜ l .bed ≡ r .bed ⌝ }
+    requires { ⌜ SpanOf x span × (l .bed ≡ r .bed) ⌝ }
     ensures { λ c. ⌜ ExchangeOf t x (sideOf l) (sideOf r) (c .rightward) (c .leftward) (c .momentum) (c .«lost_left») (c .«lost_right») × ExchangeFits c ⌝ }
 {
-    let a = fluxes_of(t, x, l.depth, l.wave, l.right, l.left);
-    let b = fluxes_of(t, x, r.depth, r.wave, r.left, r.right);
+    let a = fluxes_of(t, x, span, l.depth, l.wave, l.right, l.left);
+    let b = fluxes_of(t, x, span, r.depth, r.wave, r.left, r.right);
     Exchange {
         rightward: a.water,
         leftward: b.water,

@@ -40,10 +40,10 @@ right-le : (c : tie.After-reduced-depth2) → c .reduced-depth2 .result ≤ entr
 right-le c = let s = entry (c .before .before .before) .args in omega (arith, right-is c, reduced-depth-le (s .r .depth) (s .r .bed) (s .l .bed))
 
 left-deep : (c : tie.After-reduced-depth) → c .reduced-depth .result ≤ 4_000_000
-left-deep c = le-trans (left-le c) (entry c .pre .1 .0 .depth)
+left-deep c = le-trans (left-le c) (entry c .pre .0 .1 .0 .depth)
 
 right-deep : (c : tie.After-reduced-depth2) → c .reduced-depth2 .result ≤ 4_000_000
-right-deep c = le-trans (right-le c) (entry (c .before .before .before) .pre .1 .1 .depth)
+right-deep c = le-trans (right-le c) (entry (c .before .before .before) .pre .0 .1 .1 .depth)
 
 -- both sides are dry
 returns : tie.Need-returns
@@ -51,7 +51,7 @@ returns c =
     let s = c .before .before .before in
     let e = c .if1 .taken in
     let none = dry-exchange (s .args .t) (s .args .x) (sideOf (s .args .l)) (sideOf (s .args .r)) (omega (arith, e)) (omega (arith, e)) in
-    (none, crossing-fits _ (s .pre .0) (s .pre .1 .0) (s .pre .1 .1) none)
+    (none, crossing-fits _ (s .pre .0 .0) (s .pre .0 .1 .0) (s .pre .0 .1 .1) none)
 
 add-if1 : tie.Need-add-if1
 add-if1 c = search needs
@@ -65,43 +65,44 @@ reduced-depth-requires-2 c κs = search needs
 reduced-wave-requires : tie.Need-reduced-wave-requires
 reduced-wave-requires c κs =
     let s = entry (c .before .before .before) in
-    (left-le (c .before .before .before), (s .pre .1 .0 .depth, s .pre .1 .0 .wave))
+    ((left-deep (c .before .before .before), s .pre .0 .1 .0 .wave), s .pre .1 .1)
 
 reduced-wave-requires-2 : tie.Need-reduced-wave-requires-2
 reduced-wave-requires-2 c κs =
     let s = entry (c .before .before .before .before) in
-    (right-le (c .before), (s .pre .1 .1 .depth, s .pre .1 .1 .wave))
+    ((right-deep (c .before), s .pre .0 .1 .1 .wave), s .pre .1 .1)
 
 -- either side at its reduced depth
 left-flow : (c : tie.After-reduced-wave2) → let s = entry (c .before .before .before .before .before) .args in Flow (c .before .before .before .before .before .reduced-depth .result) (c .before .reduced-wave .result) (s .l .right) (s .l .left)
 left-flow c =
     let k = c .before .before .before .before .before in
-    let p = entry k .pre .1 .0 in
+    let p = entry k .pre .0 .1 .0 in
     record { depth = left-deep k; wave = c .before .reduced-wave .ensures; right-most = p .right-most; left-most = p .left-most }
 
 right-flow : (c : tie.After-reduced-wave2) → let s = entry (c .before .before .before .before .before) .args in Flow (c .before .before .reduced-depth2 .result) (c .reduced-wave2 .result) (s .r .left) (s .r .right)
 right-flow c =
-    let p = entry (c .before .before .before .before .before) .pre .1 .1 in
+    let p = entry (c .before .before .before .before .before) .pre .0 .1 .1 in
     record { depth = right-deep (c .before .before); wave = c .reduced-wave2 .ensures; right-most = p .left-most; left-most = p .right-most }
 
 fluxes-of-requires : tie.Need-fluxes-of-requires
-fluxes-of-requires c κs = (entry (c .before .before .before .before .before) .pre .0, left-flow c)
+fluxes-of-requires c κs = let p = entry (c .before .before .before .before .before) .pre in (p .0 .0, (p .1 .0, left-flow c))
 
 fluxes-of-requires-2 : tie.Need-fluxes-of-requires-2
-fluxes-of-requires-2 c κs = (entry (c .before .before .before .before .before .before) .pre .0, right-flow (c .before))
+fluxes-of-requires-2 c κs =
+    let p = entry (c .before .before .before .before .before .before) .pre in (p .0 .0, (p .1 .0, right-flow (c .before)))
 
-add-t11 : tie.Need-add-t11
-add-t11 c =
+add-t13 : tie.Need-add-t13
+add-t13 c =
     let k = c .before .before .before .before in
-    let g = entry (k .before .before .before .before .before) .pre .0 in
+    let g = entry (k .before .before .before .before .before) .pre .0 .0 in
     omega (arith, c .before .before .before .fluxes-of .ensures .1, c .before .before .fluxes-of2 .ensures .1, momentum-flux-small g (left-flow k), momentum-flux-small g (right-flow k))
 
 thrust-lost-requires : tie.Need-thrust-lost-requires
 thrust-lost-requires c κs =
     let k = c .before .before .before .before in
     let s = entry (k .before .before .before .before .before) in
-    let p = s .pre .1 .0 in (
-      s .pre .0,
+    let p = s .pre .0 .1 .0 in (
+      (s .pre .0 .0, s .pre .1 .0),
       (
         record { depth = p .depth; wave = p .wave; right-most = omega arith; left-most = omega arith },
         (record { depth = left-flow k .depth; wave = left-flow k .wave; right-most = omega arith; left-most = omega arith }, left-le (k .before .before .before .before .before)),
@@ -112,8 +113,8 @@ thrust-lost-requires-2 : tie.Need-thrust-lost-requires-2
 thrust-lost-requires-2 c κs =
     let k = c .before .before .before .before .before in
     let s = entry (k .before .before .before .before .before) in
-    let p = s .pre .1 .1 in (
-      s .pre .0,
+    let p = s .pre .0 .1 .1 in (
+      (s .pre .0 .0, s .pre .1 .0),
       (
         record { depth = p .depth; wave = p .wave; right-most = omega arith; left-most = omega arith },
         (record { depth = right-flow k .depth; wave = right-flow k .wave; right-most = omega arith; left-most = omega arith }, right-le (k .before .before)),
@@ -125,7 +126,7 @@ unfolding momentumSum leftDepth rightDepth
 returns-2 c =
     let k = c .before .before .before .before .before .before in
     let s = entry (k .before .before .before .before .before) .args in
-    let g = entry (k .before .before .before .before .before) .pre in
+    let g = entry (k .before .before .before .before .before) .pre .0 in
     let a = c .before .before .before .before .before .fluxes-of .ensures in
     let b = c .before .before .before .before .fluxes-of2 .ensures in
     let hl = left-is (k .before .before .before .before .before) in
@@ -155,7 +156,7 @@ exchange-between-spec =
     reduced-wave-requires-2
     fluxes-of-requires
     fluxes-of-requires-2
-    add-t11
+    add-t13
     thrust-lost-requires
     thrust-lost-requires-2
     returns-2)

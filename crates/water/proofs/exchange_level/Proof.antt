@@ -28,13 +28,13 @@ right-flow : (s : tie.Start) → Flow (s .args .r .depth) (s .args .r .wave) (s 
 right-flow s = let p = s .pre .0 .1 .1 in record { depth = p .depth; wave = p .wave; right-most = p .left-most; left-most = p .right-most }
 
 fluxes-of-requires : tie.Need-fluxes-of-requires
-fluxes-of-requires c κs = (c .pre .0 .0, left-flow c)
+fluxes-of-requires c κs = (c .pre .0 .0, (c .pre .1 .0, left-flow c))
 
 fluxes-of-requires-2 : tie.Need-fluxes-of-requires-2
-fluxes-of-requires-2 c κs = (c .before .pre .0 .0, right-flow (c .before))
+fluxes-of-requires-2 c κs = (c .before .pre .0 .0, (c .before .pre .1 .0, right-flow (c .before)))
 
-add-t7 : tie.Need-add-t7
-add-t7 c =
+add-t8 : tie.Need-add-t8
+add-t8 c =
     let s = c .before .before .before .before in
     let g = s .pre .0 .0 in
     omega (arith, c .before .before .before .fluxes-of .ensures .1, c .before .before .fluxes-of2 .ensures .1, momentum-flux-small g (left-flow s), momentum-flux-small g (right-flow s))
@@ -47,8 +47,8 @@ returns c =
     let g = k .pre .0 in
     let a = c .before .before .before .fluxes-of .ensures in
     let b = c .before .before .fluxes-of2 .ensures in
-    let hl = not-reduced (s .l .depth) (s .l .bed) (s .r .bed) (k .pre .1) in
-    let hr = not-reduced (s .r .depth) (s .r .bed) (s .l .bed) (sym (k .pre .1)) in
+    let hl = not-reduced (s .l .depth) (s .l .bed) (s .r .bed) (k .pre .1 .1) in
+    let hr = not-reduced (s .r .depth) (s .r .bed) (s .l .bed) (sym (k .pre .1 .1)) in
     let turned = sym (sub-neg (s .r .right) (s .r .left)) in
     let water : ℕ → ℤ → ℕ = λ h u. waterFlux (s .t) (s .x) h u in
     let push : ℕ → ℤ → ℕ = λ h u. momentumFlux (s .t) (s .x) h u in
@@ -64,4 +64,4 @@ returns c =
     (crosses, crossing-fits _ (g .0) (g .1 .0) (g .1 .1) crosses)
 
 pub exchange-level-spec : {M : Type 1} → statement M
-exchange-level-spec = tie.close (tie.spec fluxes-of-requires fluxes-of-requires-2 add-t7 returns)
+exchange-level-spec = tie.close (tie.spec fluxes-of-requires fluxes-of-requires-2 add-t8 returns)
