@@ -174,10 +174,10 @@ pub fn sweep(
 {
     let n = bed.len();
     let roots = root_table();
-    let span = divisor_of(1_000 * x);
     let mut cell = cell_state(bed[0], depth[0], discharge[0], &roots);
     let beyond = boundary_state(BoundaryPlace::Left, boundaries[0], cell, &roots);
     let mut met = still_meets(still_meets(true, t, x, beyond), t, x, cell);
+    let span = divisor_of(1_000 * x);
     let mut left = exchange_level(t, x, span, beyond, cell);
     net[0] = net_of(left);
     let powers = four_thirds();

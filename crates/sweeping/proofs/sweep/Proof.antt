@@ -16,6 +16,7 @@ use Rattle.numbers.specs.Index.{allBelow}
 use Rattle.numbers.specs.Signed.{positive}
 use Rattle.numbers.proofs.IndexLaws.{Written, written-none, written-first, written-more}
 use Rattle.flux.specs.Interface.{Side}
+use Rattle.flux.specs.Ranges.{SpanOf}
 use Rattle.reach.specs.Reach.{Reach, cells}
 use Rattle.reach.specs.declared.boundary.BoundaryPlace.the-variants.{Left}
 use Rattle.reach.specs.Grounds.{passOr}
@@ -27,7 +28,7 @@ use Rattle.sweeping.proofs.sweep.Statement.{statement}
 use Rattle.sweeping.proofs.sweep.Tie as tie
 
 abbrev Inv-loop : tie.InvT-loop
-Inv-loop t f x z h q net₀ given₀ depth₀ discharge₀ boundaries n roots cell₀ met₀ left₀ powers i₀ net given depth discharge cell met left i =
+Inv-loop t f x z h q net₀ given₀ depth₀ discharge₀ boundaries n roots cell₀ met₀ span left₀ powers i₀ net given depth discharge cell met left i =
     let s = flowOf z h q x boundaries in
     (i ≤ n)
     × Written (pos 0) (netAt s t) net₀ (i + 1) net
@@ -41,20 +42,20 @@ Inv-loop t f x z h q net₀ given₀ depth₀ discharge₀ boundaries n roots ce
     × Written 0 (λ k. granted s t (getD given₀ k 0) k) given₀ i given
 
 abbrev μ-loop : tie.MeasureT-loop
-μ-loop t f x z h q net₀ given₀ depth₀ discharge₀ boundaries n roots cell₀ met₀ left₀ powers i₀ net given depth discharge cell met left i = n - i
+μ-loop t f x z h q net₀ given₀ depth₀ discharge₀ boundaries n roots cell₀ met₀ span left₀ powers i₀ net given depth discharge cell met left i = n - i
 
 abbrev entry : tie.After-net-of Inv-loop μ-loop → tie.Start Inv-loop μ-loop
-entry c = c .before .before .before .before .before .before .before .before .before .before .before .before .before .before .before .before
+entry c = c .before .before .before .before .before .before .before .before .before .before .before .before .before .before .before .before .before
 
 abbrev table : tie.After-net-of Inv-loop μ-loop → tie.After-root-table Inv-loop μ-loop
-table c = c .before .before .before .before .before .before .before .before .before .before .before .before
+table c = c .before .before .before .before .before .before .before .before .before .before .before .before .before
 
 abbrev start : tie.In-loop Inv-loop μ-loop → tie.Start Inv-loop μ-loop
 start c = entry (c .before .before .before)
 
 -- the turn of an interface, of what a cell gives, and of what it is left with
 abbrev turn : tie.After-exchange-between Inv-loop μ-loop → tie.In-loop Inv-loop μ-loop
-turn c = c .before .before .before .before
+turn c = c .before .before .before .before .before
 
 abbrev gives : tie.After-granted-of Inv-loop μ-loop → tie.After-exchange-between Inv-loop μ-loop
 gives c = c .before .before .before
@@ -68,6 +69,10 @@ cell-at c = turn (gives (left-with (c .before .before)))
 
 abbrev flow : tie.Start Inv-loop μ-loop → Reach
 flow s = flowOf (now (s .args .bed)) (now (s .args .depth)) (now (s .args .discharge)) (s .args .x) (s .args .t7)
+
+-- 1,000·X as it is divided by
+span-of : (c : tie.After-divisor-of Inv-loop μ-loop) → SpanOf (c .before .before .before .before .before .before .before .before .before .before .before .before .before .before .before .args .x) (c .divisor-of .result)
+span-of c = record { value-is = c .divisor-of .ensures .0; fits = c .divisor-of .ensures .1 }
 
 -- the first cell and the left boundary beside it
 first : (c : tie.After-cell-state Inv-loop μ-loop) → SideStateFits (c .cell-state .result) × (sideOf (c .cell-state .result) ≡ cellSide (flow (c .before .before .before .before .before .before .before .before .before)) 0)
@@ -111,7 +116,7 @@ crossing : (c : tie.After-exchange-between Inv-loop μ-loop) →
 crossing c =
     let k = turn c in
     let e = c .exchange-between .ensures in
-    (exchange-at (here k ∙ sym (left-side-next (flow (start k)) (k .before .loop .i))) (next (c .before) .1) (e .0), e .1)
+    (exchange-at (here k ∙ sym (left-side-next (flow (start k)) (k .before .loop .i))) (next (c .before .before) .1) (e .0), e .1)
 
 root-table-requires : tie.Need-root-table-requires Inv-loop μ-loop
 root-table-requires c κs = search needs
@@ -143,11 +148,17 @@ still-meets-requires c κs = (c .before .before .before .before .before .before 
 still-meets-requires-2 : tie.Need-still-meets-requires-2 Inv-loop μ-loop
 still-meets-requires-2 c κs = (c .before .before .before .before .before .before .before .before .before .before .before .before .before .pre .0 .0, first (c .before .before .before .before) .0)
 
+mul-divisor-of : tie.Need-mul-divisor-of Inv-loop μ-loop
+mul-divisor-of c = let m = c .before .before .before .before .before .before .before .before .before .before .before .before .before .before .pre .0 .0 in omega (arith, m .most)
+
+divisor-of-requires : tie.Need-divisor-of-requires Inv-loop μ-loop
+divisor-of-requires c κs = let m = c .before .before .before .before .before .before .before .before .before .before .before .before .before .before .pre .0 .0 in omega (arith, m .least)
+
 exchange-level-requires : tie.Need-exchange-level-requires Inv-loop μ-loop
 exchange-level-requires c κs =
-    let b = c .before .before .boundary-state .ensures in (
-      (c .before .before .before .before .before .before .before .before .before .before .before .before .before .before .pre .0 .0, (beyond (c .before .before) .0, first (c .before .before .before .before .before) .0)),
-      ap (λ (d : Side). d .bed) (b .1) ∙ boundary-bed Left _ (sideOf (c .before .before .before .before .before .cell-state .result)),
+    let b = c .before .before .before .boundary-state .ensures in (
+      (c .before .before .before .before .before .before .before .before .before .before .before .before .before .before .before .pre .0 .0, (beyond (c .before .before .before) .0, first (c .before .before .before .before .before .before) .0)),
+      (span-of c, ap (λ (d : Side). d .bed) (b .1) ∙ boundary-bed Left _ (sideOf (c .before .before .before .before .before .before .cell-state .result))),
     )
 
 net-of-requires : tie.Need-net-of-requires Inv-loop μ-loop
@@ -165,8 +176,8 @@ loop-holds c =
     let o = c .before in
     let s = entry o in
     let p = s .pre .0 .1 in
-    let a = first (o .before .before .before .before .before .before .before) in
-    let b = beyond (o .before .before .before .before) in
+    let a = first (o .before .before .before .before .before .before .before .before) in
+    let b = beyond (o .before .before .before .before .before) in
     let r = a .1 ∙ sym (right-side-cell (flow s) 0 (p .some)) in
     let e = o .before .exchange-level .ensures in
     let k = exchange-at (b .1) r (e .0) in
@@ -179,7 +190,7 @@ loop-holds c =
       r,
       k,
       e .1,
-      o .before .before .still-meets2 .ensures ∙ ap₂ _&&_ (o .before .before .before .still-meets .ensures ∙ ap meets (b .1)) (ap meets r),
+      o .before .before .before .still-meets2 .ensures ∙ ap₂ _&&_ (o .before .before .before .before .still-meets .ensures ∙ ap meets (b .1)) (ap meets r),
       written-none _ _ _,
     )
 
@@ -196,7 +207,10 @@ right-side-requires c κs =
     ((p .depths, p .discharges), ((λ l. p .cell _ l), ((k .before .loop .inv .4, p .right), table (k .before .before .before) .root-table .ensures)))
 
 exchange-between-requires : tie.Need-exchange-between-requires Inv-loop μ-loop
-exchange-between-requires c κs = let k = c .before .before .before in (start k .pre .0 .0, (k .before .loop .inv .4, next c .0))
+exchange-between-requires c κs =
+    let k = c .before .before .before .before in
+    let o = k .before .before .before in
+    ((start k .pre .0 .0, (k .before .loop .inv .4, next (c .before) .0)), (span-of (o .before .before), table o .root-table .ensures))
 
 mul-granted-of : tie.Need-mul-granted-of Inv-loop μ-loop
 mul-granted-of c = let l = index (turn c) in omega (arith, l .1)
@@ -234,7 +248,7 @@ depth-after-requires c κs =
     (start k .pre .0 .1 .cell (k .before .loop .i) (index k .0) .1 .0, (omega (arith, c .before .granted-of .ensures), (k .before .loop .inv .7, crossing (gives (c .before)) .1)))
 
 still-meets-requires-3 : tie.Need-still-meets-requires-3 Inv-loop μ-loop
-still-meets-requires-3 c κs = let g = gives (left-with c) in (start (turn g) .pre .0 .0, next (g .before) .0)
+still-meets-requires-3 c κs = let g = gives (left-with c) in (start (turn g) .pre .0 .0, next (g .before .before) .0)
 
 net-of-requires-2 : tie.Need-net-of-requires-2 Inv-loop μ-loop
 net-of-requires-2 c κs = crossing (gives (left-with (c .before))) .1
@@ -297,8 +311,8 @@ momentum-after-requires c κs =
       (omega (arith, f .0, f .1), (omega (arith, f .0, l .rightward-most, r .leftward-most, d .depth-after .ensures), (l, r))),
     )
 
-mul-t50 : tie.Need-mul-t50 Inv-loop μ-loop
-mul-t50 c = let l = index (cell-at (c .before .before .before .before)) in omega (arith, l .1)
+mul-t52 : tie.Need-mul-t52 Inv-loop μ-loop
+mul-t52 c = let l = index (cell-at (c .before .before .before .before)) in omega (arith, l .1)
 
 slice-set-from-new-discharge-2 : tie.Need-slice-set-from-new-discharge-2 Inv-loop μ-loop
 slice-set-from-new-discharge-2 c =
@@ -324,7 +338,7 @@ loop-again c =
     let s = flow (start k) in
     let a = start k .args in
     let l = index k .0 in
-    let n = next (g .before) in
+    let n = next (g .before .before) in
     let r = crossing g in
     let want : ℕ → ℕ = λ j. getD (now (a .given)) j 0 in
     let taken = left-with d .granted-of .ensures ∙ ap (min _) (w .9 .same i (omega arith)) in
@@ -396,6 +410,8 @@ sweep-spec =
     boundary-state-requires
     still-meets-requires
     still-meets-requires-2
+    mul-divisor-of
+    divisor-of-requires
     exchange-level-requires
     net-of-requires
     slice-set-from-net
@@ -426,7 +442,7 @@ sweep-spec =
     mul-momentum-after
     shared-slice-copy-out-momentum-after
     momentum-after-requires
-    mul-t50
+    mul-t52
     slice-set-from-new-discharge-2
     add-i
     loop-less
