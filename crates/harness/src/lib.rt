@@ -22,6 +22,7 @@ use flux::crossing::still_thrust;
 use flux::interface::reduced_depth;
 use flux::velocity::velocity_parts;
 use flux::wave::wave_speed;
+use numbers::quotient::divisor_of;
 use numbers::root::root_table;
 use numbers::signed::joined;
 use numbers::signed::left_part;
@@ -53,11 +54,12 @@ pub extern "C" fn harness_side(t: u64, x: u64, h: u64, u: i64) -> Side
 {
     let roots = root_table();
     let a = wave_speed(h, &roots);
-    let c = fluxes_of(t, x, h, a, right_part(u), left_part(u));
+    let span = divisor_of(1_000 * x);
+    let c = fluxes_of(t, x, span, h, a, right_part(u), left_part(u));
     Side {
         water: c.water,
         momentum: c.momentum,
-        still: still_thrust(t, x, h, a),
+        still: still_thrust(t, x, span, h, a),
     }
 }
 

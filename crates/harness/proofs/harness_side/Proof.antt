@@ -5,6 +5,7 @@ use native.Mathlib.Omega.{arith}
 use mir.Facts.{toZ-ofZ}
 use Rattle.numbers.proofs.SignedLaws.{two-parts, abs-parts}
 use Rattle.flux.specs.Crossing.{waterFlux, momentumFlux}
+use Rattle.flux.specs.Ranges.{SpanOf}
 use borrow.Author.Needs.{needs}
 use Rattle.harness.proofs.harness_side.Statement.{statement}
 use Rattle.harness.proofs.harness_side.Tie as tie
@@ -15,6 +16,16 @@ root-table-requires c κs = search needs
 wave-speed-requires : tie.Need-wave-speed-requires
 wave-speed-requires c κs = (c .before .before .pre .1 .0, c .before .root-table .ensures)
 
+mul-divisor-of : tie.Need-mul-divisor-of
+mul-divisor-of c = let m = c .before .before .pre .0 in omega (arith, m .most)
+
+divisor-of-requires : tie.Need-divisor-of-requires
+divisor-of-requires c κs = let m = c .before .before .pre .0 in omega (arith, m .least)
+
+-- 1,000·X as it is divided by
+span-of : (c : tie.After-divisor-of) → SpanOf (c .before .before .before .args .x) (c .divisor-of .result)
+span-of c = record { value-is = c .divisor-of .ensures .0; fits = c .divisor-of .ensures .1 }
+
 right-part-requires : tie.Need-right-part-requires
 right-part-requires c κs = search needs
 
@@ -23,26 +34,37 @@ left-part-requires c κs = search needs
 
 fluxes-of-requires : tie.Need-fluxes-of-requires
 fluxes-of-requires c κs =
-    let s = c .before .before .before .before .before in
+    let s = c .before .before .before .before .before .before in
     let f = s .fits .u in
     let k = abs-parts (s .args .u) in
     let r = rw (toZ-ofZ f) at (c .before .right-part .ensures) in
     let l = rw (toZ-ofZ f) at (c .left-part .ensures) in (
       s .pre .0,
-      record {
-        depth = s .pre .1 .0;
-        wave = c .before .before .wave-speed .ensures;
-        right-most = omega arith;
-        left-most = omega arith;
-      },
+      (
+        span-of (c .before .before),
+        record {
+          depth = s .pre .1 .0;
+          wave = c .before .before .before .wave-speed .ensures;
+          right-most = omega arith;
+          left-most = omega arith;
+        },
+      ),
     )
 
 still-thrust-requires : tie.Need-still-thrust-requires
-still-thrust-requires c κs = search needs
+still-thrust-requires c κs =
+    let k = c .before .before .before in
+    let s = k .before .before .before in (
+      s .pre .0,
+      (
+        span-of k,
+        record { depth = s .pre .1 .0; wave = k .before .wave-speed .ensures; right-most = omega arith; left-most = omega arith },
+      ),
+    )
 
 returns : tie.Need-returns
 returns c =
-    let s = c .before .before .before .before .before .before .before in
+    let s = c .before .before .before .before .before .before .before .before in
     let f = s .fits .u in
     let u = s .args .u in
     let r = rw (toZ-ofZ f) at (c .before .before .before .right-part .ensures) in
@@ -59,6 +81,8 @@ harness-side-spec =
     (tie.spec
     root-table-requires
     wave-speed-requires
+    mul-divisor-of
+    divisor-of-requires
     right-part-requires
     left-part-requires
     fluxes-of-requires
