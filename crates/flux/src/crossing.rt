@@ -60,15 +60,7 @@ pub struct Fluxes {
 }
 
 // W(h,u) and Q(h,u) of a depth h, its wave speed a and the velocity u = right − left
-pub fn fluxes_of(
-    t: u64,
-    x: u64,
-    span: Divisor,
-    h: u64,
-    a: u64,
-    right: u64,
-    left: u64,
-) -> Fluxes
+pub fn fluxes_of(t: u64, x: u64, span: Divisor, h: u64, a: u64, right: u64, left: u64) -> Fluxes
     requires { ⌜ Mesh t x × (SpanOf x span × Flow h a right left) ⌝ }
     ensures { λ r. ⌜ (r .water ≡ waterFlux t x h (subℕ right left)) × (r .momentum ≡ momentumFlux t x h (subℕ right left)) ⌝ }
 {

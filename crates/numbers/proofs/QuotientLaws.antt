@@ -28,7 +28,7 @@ pub upper-half-is : (P u v : ℕ) → 0 < P →
 upper-half-is P u v p =
     upper-digits P (u * v) _ (next P u v % P) (u % P * (v % P) % P)
     (ap₂ _*_ (sym (div-add-mod' u P)) (sym (div-add-mod' v P))
-        ∙ columns P (u / P) (u % P) (v / P) (v % P) (u % P * (v % P) / P) _ (middle P u v / P) _ (next P u v / P) _ (sym (div-add-mod' (u % P * (v % P)) P)) (sym (div-add-mod' (middle P u v) P)) (sym (div-add-mod' (next P u v) P)))
+    ∙ columns P (u / P) (u % P) (v / P) (v % P) (u % P * (v % P) / P) _ (middle P u v / P) _ (next P u v / P) _ (sym (div-add-mod' (u % P * (v % P)) P)) (sym (div-add-mod' (middle P u v) P)) (sym (div-add-mod' (next P u v) P)))
     (mod-lt (next P u v) p)
     (mod-lt (u % P * (v % P)) p)
 

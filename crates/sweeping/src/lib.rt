@@ -3,7 +3,7 @@
 ghost use mathlib.Core.Path.{_≡_};
 ghost use mathlib.Core.Bool.{cond, _&&_};
 ghost use Prim.Native.Nat.{ℕ, _+_, _-_, _*_, _≤_, _<_, min};
-ghost use lib.Dec.{ltb};
+ghost use lib.Dec.{eqb, ltb};
 ghost use lib.IntN.{pos, _+ℤ_, _-ℤ_, natAbs, subℕ};
 ghost use lib.ListN.{length, getD};
 ghost use Rattle.numbers.specs.Table.{RootTable};
@@ -140,6 +140,25 @@ fn momentum_after(
     )
 }
 
+// Whether no water stands at either side
+fn both_dry(l: SideState, r: SideState) -> bool
+    requires { ⌜ SideStateFits l × SideStateFits r ⌝ }
+    ensures { λ d. ⌜ d ≡ eqb (l .depth + r .depth) 0 ⌝ }
+{
+    l.depth + r.depth == 0
+}
+
+// Whether a cell stays dry, where it is dry and so is the side at its left: the side at its right is too, so that nothing crosses there. Most cells of a dry reach
+// are such, and cost nothing more.
+fn stays_dry(dry: bool, next: SideState) -> bool
+    ensures { λ r. ⌜ r ≡ (dry && eqb (next .depth) 0) ⌝ }
+{
+    if !dry {
+        return false;
+    }
+    next.depth == 0
+}
+
 // Ground 11
 fn check_cfl(met: bool) -> Check
     ensures { λ r. ⌜ r ≡ passOr 11 met ⌝ }
@@ -181,9 +200,20 @@ pub fn sweep(
     let mut left = exchange_level(t, x, span, beyond, cell);
     net[0] = net_of(left);
     let powers = four_thirds();
+    let mut dry = false;
     let mut i = 0;
     while i < n {
         let next = right_side(bed, depth, discharge, boundaries[1], cell, i + 1, &roots);
+        if stays_dry(dry, next) {
+            net[i + 1] = 0;
+            given[i] = 0;
+            new_depth[i] = 0;
+            new_discharge[i] = 0;
+            cell = next;
+            i += 1;
+            continue;
+        }
+        dry = both_dry(cell, next);
         let right = exchange_between(t, x, span, cell, next, &roots);
         let taken = granted_of(depth[i], left, right, given[i]);
         let deep = depth_after(depth[i], left, right, taken);

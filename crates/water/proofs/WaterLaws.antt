@@ -8,7 +8,7 @@ use native.Mathlib.Omega.{arith}
 use native.Mathlib.Nat.{le-trans}
 use native.Mathlib.Numerals.{add-one}
 use lib.Dec.{eqb, ltb}
-use borrow.Author.Tests.{lt-ltb, le-ltb, eq-eqb, ne-eqb, eqb-true}
+use borrow.Author.Tests.{le-leb, lt-ltb, le-ltb, eq-eqb, ne-eqb, eqb-true}
 use lib.IntN.{ℤ, pos, _+ℤ_, _-ℤ_, negℤ, subℕ, natAbs}
 use lib.ListN.{length, getD}
 use lib.Signed.{leZ, leZ-yes}
@@ -30,16 +30,17 @@ use Rattle.flux.specs.Ranges.{Mesh}
 use Rattle.friction.specs.Friction.{centimetres, tableMost, conveyanceSquared, drag, slowed, slowedBy}
 use Rattle.friction.proofs.FrictionLaws.{in-list}
 use Rattle.flux.proofs.CrossingLaws.{still-thrust-mono, still-thrust-most, water-flux-dry, momentum-flux-dry, water-flux-most, momentum-flux-most}
-use Rattle.flux.proofs.VelocityLaws.{velocity-most}
+use Rattle.flux.proofs.VelocityLaws.{velocity-dry, velocity-most}
+use Rattle.flux.proofs.WaveLaws.{wave-speed-dry}
 use Rattle.flux.proofs.InterfaceLaws.{reduced-depth-le, net-water-is, wall-passes-nothing, cell-outflow-le-depth}
 use Rattle.reach.specs.Limits.{wall, openBoundary}
 use Rattle.reach.specs.declared.boundary.Boundary.{Boundary}
 use Rattle.reach.specs.declared.boundary.BoundaryPlace.{BoundaryPlace}
 use Rattle.reach.specs.declared.boundary.BoundaryPlace.the-variants.{Left, Right}
 use Rattle.reach.specs.Reach.{Reach, cells, bedAt, depthAt, dischargeAt, leftBoundary, rightBoundary}
-use Rattle.water.specs.Sides.{cellSide, boundarySide, leftSide, rightSide}
+use Rattle.water.specs.Sides.{cellSide, boundarySide, sideSpeed, leftSide, rightSide}
 use Rattle.water.specs.Water.{netAt, momentumAt, ownLeft, ownRight, available, wantsFrom, draws, drawOf, undrawnDepth, newDepth, pushed, nearest, newDischarge}
-use Rattle.water.specs.Ranges.{sideOf, SideStateFits, ExchangeOf, ExchangeFits, fluxMost, flowOf, FlowFits, sidesMeet, granted, grantedDepth, grantedDischarge, Swept}
+use Rattle.water.specs.Ranges.{sideOf, SideStateFits, ExchangeOf, ExchangeFits, fluxMost, flowOf, FlowFits, sideMeets, sidesMeet, granted, grantedDepth, grantedDischarge, Swept}
 use Rattle.water.specs.declared.SideState.{SideState}
 use Rattle.water.specs.declared.Exchange.{Exchange}
 
@@ -501,6 +502,79 @@ module _ (s : Reach) (t : ℕ) where
     discharge-by-crossings F w D c =
         let m : p' ≡ momentumAt s t (suc i) = rw (add-one i) at (k' .momentum-is) in
         rw (c, pushed-is s t i l, depth-by-crossings w, ← lost-left, ← lost-right, ← m, ← k .momentum-is) refl
+
+-- ---- a dry cell between dry sides
+
+-- what crosses between two dry sides crosses between any two
+pub dry-same : {t X a b p d e : ℕ} (l r l' r' : Side) → ExchangeOf t X l r a b p d e → (l .depth ≡ 0) × (r .depth ≡ 0) → (l' .depth ≡ 0) × (r' .depth ≡ 0)
+    → ExchangeOf t X l' r' a b p d e
+dry-same l r l' r' k z z' =
+    let o = dry-exchange _ _ l r (z .0) (z .1) in
+    let o' = dry-exchange _ _ l' r' (z' .0) (z' .1) in
+    record {
+      rightward-is = k .rightward-is ∙ sym (o .rightward-is) ∙ o' .rightward-is;
+      leftward-is = k .leftward-is ∙ sym (o .leftward-is) ∙ o' .leftward-is;
+      momentum-is = k .momentum-is ∙ sym (o .momentum-is) ∙ o' .momentum-is;
+      lost-left-is = k .lost-left-is ∙ sym (o .lost-left-is) ∙ o' .lost-left-is;
+      lost-right-is = k .lost-right-is ∙ sym (o .lost-right-is) ∙ o' .lost-right-is;
+    }
+
+-- dry water has no velocity
+abbrev Still : Side → Type 0
+Still c = c .depth ≡ 0 → natAbs (c .velocity) ≡ 0
+
+still-at : (z : ℤ) (h : ℕ) (q : ℤ) → Still (record { bed = z; depth = h; velocity = velocity h q })
+still-at z h q e = rw (e, velocity-dry q) refl
+
+still-cell : (s : Reach) (i : ℕ) → Still (cellSide s i)
+unfolding cellSide
+still-cell s i = still-at (bedAt s i) (depthAt s i) (dischargeAt s i)
+
+still-boundary : (p : BoundaryPlace) (e : Boundary) (c : Side) → Still c → Still (boundarySide p e c)
+unfolding boundarySide mirrored
+still-boundary p e c f = go (eqb (e .kind) wall) (eqb (e .kind) openBoundary)
+  where
+    go : (a b : Bool) → Still (cond a (mirrored c) (cond b c (record { bed = c .bed; depth = e .depth; velocity = velocity (e .depth) (e .discharge) })))
+    go true b = λ d. abs-neg (c .velocity) ∙ f d
+    go false true = f
+    go false false = still-at (c .bed) (e .depth) (e .discharge)
+
+still-right : (s : Reach) (i : ℕ) → Still (rightSide s i)
+unfolding rightSide
+still-right s i =
+    by-less i (cells s) (λ b. Still (cond b (cellSide s i) (boundarySide Right (rightBoundary (s .held .boundaries)) (cellSide s (cells s - 1)))))
+    (λ l. still-cell s i)
+    (λ l. still-boundary Right (rightBoundary (s .held .boundaries)) (cellSide s (cells s - 1)) (still-cell s (cells s - 1)))
+
+-- and meets CFL
+pub dry-meets : (s : Reach) (t X i : ℕ) → rightSide s i .depth ≡ 0 → sideMeets t X (rightSide s i) ≡ true
+unfolding sideMeets sideSpeed
+dry-meets s t X i e = rw (still-right s i e, e, wave-speed-dry) (le-leb (t * (0 + 0)) (1_000 * X) (omega arith))
+
+module _ (s : Reach) (t i : ℕ) (l : i < cells s) (left : leftSide s i .depth ≡ 0) (here : rightSide s i .depth ≡ 0) (right : rightSide s (i + 1) .depth ≡ 0) where
+  no-depth : depthAt s i ≡ 0
+  unfolding cellSide
+  no-depth = sym (ap (λ (c : Side). c .depth) (right-side-cell s i l)) ∙ here
+
+  before : ExchangeOf t (s .cellLength) (leftSide s i) (rightSide s i) 0 0 0 0 0
+  before = dry-exchange t (s .cellLength) (leftSide s i) (rightSide s i) left here
+
+  behind : ExchangeOf t (s .cellLength) (leftSide s (i + 1)) (rightSide s (i + 1)) 0 0 0 0 0
+  unfolding cellSide
+  behind = dry-exchange t (s .cellLength) (leftSide s (i + 1)) (rightSide s (i + 1)) (ap (λ (c : Side). c .depth) (left-side-next s i) ∙ no-depth) right
+
+  pub dry-net : netAt s t (i + 1) ≡ pos 0
+  dry-net = net-by-crossing s t (i + 1) behind ∙ sym (pos-sub 0)
+
+  pub dry-granted : (w : ℕ) → granted s t w i ≡ 0
+  dry-granted w = grant-by-crossings s t i l before behind w ∙ omega (arith, no-depth)
+
+  pub dry-depth : (w : ℕ) → positive (grantedDepth s t w i) ≡ 0
+  dry-depth w = depth-by-crossings s t i l before behind w ∙ omega (arith, no-depth)
+
+  pub dry-discharge : (F w : ℕ) → grantedDischarge s t F w i ≡ pos 0
+  unfolding grantedDischarge
+  dry-discharge F w = nearest-dry (positive (grantedDepth s t w i)) _ (dry-depth w)
 
 -- CFL at one side more
 pub meets-more : (first : Bool) (f : ℕ → Bool) (i : ℕ) → ((first && allBelow (i + 1) f) && f (i + 1)) ≡ (first && allBelow (i + 1 + 1) f)

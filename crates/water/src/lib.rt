@@ -71,15 +71,7 @@ pub fn boundary_state(p: BoundaryPlace, e: Boundary, c: SideState, roots: &[u16;
 }
 
 // S of the whole depth less S of the reduced depth: no quotient where nothing is taken off
-fn thrust_lost(
-    t: u64,
-    x: u64,
-    span: Divisor,
-    h: u64,
-    a: u64,
-    reduced: u64,
-    reduced_a: u64,
-) -> u64
+fn thrust_lost(t: u64, x: u64, span: Divisor, h: u64, a: u64, reduced: u64, reduced_a: u64) -> u64
     requires { ⌜ Mesh t x × SpanOf x span ⌝ }
     requires { ⌜ Flow h a 0 0 × (Flow reduced «reduced_a» 0 0 × (reduced ≤ h)) ⌝ }
     ensures { λ r. ⌜ r ≡ stillThrust t x h - stillThrust t x reduced ⌝ }

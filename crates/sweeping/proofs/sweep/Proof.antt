@@ -1,20 +1,22 @@
 -- `sweeping::sweep` meets its contract. The loop carries the cell at hand with what crosses at its left; what it has passed is written as
 -- the definitions say. Assumes nothing.
 use mathlib.Core.Path.{_≡_, sym, ap, ap₂, _∙_}
-use mathlib.Core.Bool.{_&&_}
+use mathlib.Core.Bool.{Bool, true, _&&_, and-true, false≢true}
 use Prim.Native.Nat.{ℕ, _+_, _-_, _≤_, _<_, min}
 use native.Mathlib.Numerals.{add-one}
 use native.Mathlib.Omega.{arith}
 use denote.Ref.{now}
+use lib.Dec.{eqb}
 use lib.IntN.{ℤ, pos, natAbs}
 use lib.ListN.{length, getD, length-set}
 use mir.Facts.{toZ-ofZ}
 use mir.Syntax.{w64}
 use mir.Val.{toZ, ofZ}
 use borrow.Author.Needs.{needs, sfits-of}
+use borrow.Author.Tests.{eqb-true}
 use Rattle.numbers.specs.Index.{allBelow}
 use Rattle.numbers.specs.Signed.{positive}
-use Rattle.numbers.proofs.IndexLaws.{Written, written-none, written-first, written-more}
+use Rattle.numbers.proofs.IndexLaws.{and-left, and-right, Written, written-none, written-first, written-more}
 use Rattle.flux.specs.Interface.{Side}
 use Rattle.flux.specs.Ranges.{SpanOf}
 use Rattle.reach.specs.Reach.{Reach, cells}
@@ -23,12 +25,12 @@ use Rattle.reach.specs.Grounds.{passOr}
 use Rattle.water.specs.Sides.{cellSide, boundarySide, leftSide, rightSide}
 use Rattle.water.specs.Water.{netAt}
 use Rattle.water.specs.Ranges.{sideOf, SideStateFits, ExchangeOf, ExchangeFits, flowOf, sideMeets, sidesMeet, granted, grantedDepth, grantedDischarge}
-use Rattle.water.proofs.WaterLaws.{boundary-bed, right-side-cell, exchange-at, left-side-next, right-side-next, net-by-crossing, grant-by-crossings, depth-by-crossings, discharge-by-crossings, meets-more}
+use Rattle.water.proofs.WaterLaws.{boundary-bed, right-side-cell, exchange-at, left-side-next, right-side-next, dry-same, dry-meets, dry-net, dry-granted, dry-depth, dry-discharge, net-by-crossing, grant-by-crossings, depth-by-crossings, discharge-by-crossings, meets-more}
 use Rattle.sweeping.proofs.sweep.Statement.{statement}
 use Rattle.sweeping.proofs.sweep.Tie as tie
 
 abbrev Inv-loop : tie.InvT-loop
-Inv-loop t f x z h q net₀ given₀ depth₀ discharge₀ boundaries n roots cell₀ met₀ span left₀ powers i₀ net given depth discharge cell met left i =
+Inv-loop t f x z h q net₀ given₀ depth₀ discharge₀ boundaries n roots cell₀ met₀ span left₀ powers dry₀ i₀ net given depth discharge cell met left dry i =
     let s = flowOf z h q x boundaries in
     (i ≤ n)
     × Written (pos 0) (netAt s t) net₀ (i + 1) net
@@ -40,9 +42,10 @@ Inv-loop t f x z h q net₀ given₀ depth₀ discharge₀ boundaries n roots ce
     × ExchangeFits left
     × (met ≡ (sideMeets t x (leftSide s 0) && allBelow (i + 1) (λ k. sideMeets t x (rightSide s k))))
     × Written 0 (λ k. granted s t (getD given₀ k 0) k) given₀ i given
+    × (dry ≡ true → (leftSide s i .depth ≡ 0) × (rightSide s i .depth ≡ 0))
 
 abbrev μ-loop : tie.MeasureT-loop
-μ-loop t f x z h q net₀ given₀ depth₀ discharge₀ boundaries n roots cell₀ met₀ span left₀ powers i₀ net given depth discharge cell met left i = n - i
+μ-loop t f x z h q net₀ given₀ depth₀ discharge₀ boundaries n roots cell₀ met₀ span left₀ powers dry₀ i₀ net given depth discharge cell met left dry i = n - i
 
 abbrev entry : tie.After-net-of Inv-loop μ-loop → tie.Start Inv-loop μ-loop
 entry c = c .before .before .before .before .before .before .before .before .before .before .before .before .before .before .before .before .before
@@ -55,7 +58,7 @@ start c = entry (c .before .before .before)
 
 -- the turn of an interface, of what a cell gives, and of what it is left with
 abbrev turn : tie.After-exchange-between Inv-loop μ-loop → tie.In-loop Inv-loop μ-loop
-turn c = c .before .before .before .before .before
+turn c = c .before .before .before .before .before .before .before .before
 
 abbrev gives : tie.After-granted-of Inv-loop μ-loop → tie.After-exchange-between Inv-loop μ-loop
 gives c = c .before .before .before
@@ -116,7 +119,7 @@ crossing : (c : tie.After-exchange-between Inv-loop μ-loop) →
 crossing c =
     let k = turn c in
     let e = c .exchange-between .ensures in
-    (exchange-at (here k ∙ sym (left-side-next (flow (start k)) (k .before .loop .i))) (next (c .before .before) .1) (e .0), e .1)
+    (exchange-at (here k ∙ sym (left-side-next (flow (start k)) (k .before .loop .i))) (next (c .before .before .before .before .before) .1) (e .0), e .1)
 
 root-table-requires : tie.Need-root-table-requires Inv-loop μ-loop
 root-table-requires c κs = search needs
@@ -192,6 +195,7 @@ loop-holds c =
       e .1,
       o .before .before .before .still-meets2 .ensures ∙ ap₂ _&&_ (o .before .before .before .before .still-meets .ensures ∙ ap meets (b .1)) (ap meets r),
       written-none _ _ _,
+      λ e. absurd (false≢true e),
     )
 
 array-copy-out-right-side : tie.Need-array-copy-out-right-side Inv-loop μ-loop
@@ -206,11 +210,109 @@ right-side-requires c κs =
     let p = start k .pre .0 .1 in
     ((p .depths, p .discharges), ((λ l. p .cell _ l), ((k .before .loop .inv .4, p .right), table (k .before .before .before) .root-table .ensures)))
 
+stays-dry-requires : tie.Need-stays-dry-requires Inv-loop μ-loop
+stays-dry-requires c κs = search needs
+
+-- where a cell stays dry
+abbrev dry-turn : tie.After-stays-dry Inv-loop μ-loop → tie.In-loop Inv-loop μ-loop
+dry-turn c = c .before .before .before .before
+
+-- it, the side at its left and the side at its right are dry
+stays : (c : tie.After-stays-dry Inv-loop μ-loop) → c .stays-dry .result ≡ true →
+    let k = dry-turn c in
+    let s = flow (start k) in
+    let i = k .before .loop .i in
+    ((leftSide s i .depth ≡ 0) × (rightSide s i .depth ≡ 0)) × (rightSide s (i + 1) .depth ≡ 0)
+stays c e =
+    let w = dry-turn c .before .loop in
+    let h = c .before .right-side .result .depth in
+    let b = sym (c .stays-dry .ensures) ∙ e in
+    (w .inv .10 (and-left (w .dry) (eqb h 0) b), sym (ap (λ (d : Side). d .depth) (next (c .before) .1)) ∙ eqb-true h 0 (and-right (w .dry) (eqb h 0) b))
+
+add-net : tie.Need-add-net Inv-loop μ-loop
+add-net c = let l = index (dry-turn (c .before)) in omega (arith, l .1)
+
+mul-net : tie.Need-mul-net Inv-loop μ-loop
+mul-net c = let l = index (dry-turn (c .before)) in omega (arith, l .1)
+
+slice-set-of-net : tie.Need-slice-set-of-net Inv-loop μ-loop
+slice-set-of-net c =
+    let k = dry-turn (c .before) in
+    let l = index k in
+    omega (arith, l .0, start k .pre .1 .0 .0, net-length k)
+
+mul-given : tie.Need-mul-given Inv-loop μ-loop
+mul-given c = let l = index (dry-turn (c .before)) in omega (arith, l .1)
+
+slice-write-given : tie.Need-slice-write-given Inv-loop μ-loop
+slice-write-given c =
+    let k = dry-turn (c .before) in
+    let l = index k in
+    omega (arith, l .0, start k .pre .1 .0 .1 .0, k .before .loop .inv .9 .long)
+
+mul-new-depth : tie.Need-mul-new-depth Inv-loop μ-loop
+mul-new-depth c = let l = index (dry-turn (c .before)) in omega (arith, l .1)
+
+slice-write-new-depth : tie.Need-slice-write-new-depth Inv-loop μ-loop
+slice-write-new-depth c =
+    let k = dry-turn (c .before) in
+    let l = index k in
+    omega (arith, l .0, start k .pre .1 .0 .1 .1 .0, k .before .loop .inv .2 .long)
+
+mul-new-discharge : tie.Need-mul-new-discharge Inv-loop μ-loop
+mul-new-discharge c = let l = index (dry-turn (c .before)) in omega (arith, l .1)
+
+slice-set-of-new-discharge : tie.Need-slice-set-of-new-discharge Inv-loop μ-loop
+slice-set-of-new-discharge c =
+    let k = dry-turn (c .before) in
+    let l = index k in
+    omega (arith, l .0, start k .pre .1 .0 .1 .1 .1, k .before .loop .inv .3 .long)
+
+add-i : tie.Need-add-i Inv-loop μ-loop
+add-i c = let l = index (dry-turn (c .before)) in omega (arith, l .1)
+
+loop-less : tie.Need-loop-less Inv-loop μ-loop
+loop-less c = let l = index (dry-turn (c .before)) in omega (arith, l .0)
+
+-- nothing is wanted, moved or left of it
+loop-again : tie.Need-loop-again Inv-loop μ-loop
+loop-again c =
+    let k = dry-turn (c .before) in
+    let i = k .before .loop .i in
+    let w = k .before .loop .inv in
+    let s = flow (start k) in
+    let a = start k .args in
+    let l = index k .0 in
+    let n = next (c .before .before) in
+    let z = stays (c .before) (c .if1 .taken) in
+    let still : (leftSide s (i + 1) .depth ≡ 0) × (rightSide s (i + 1) .depth ≡ 0) = (ap (λ (d : Side). d .depth) (left-side-next s i ∙ sym (right-side-cell s i l)) ∙ z .0 .1, z .1) in
+    let want : ℕ → ℕ = λ j. getD (now (a .given)) j 0 in (
+      omega (arith, l),
+      written-more (pos 0) (netAt s (a .t)) _ (i + 1) _ _ (w .1) (omega (arith, l, start k .pre .1 .0 .0, net-length k, w .1 .long))
+          (sym (dry-net s (a .t) i l (z .0 .0) (z .0 .1) (z .1))),
+      written-more 0 (λ j. positive (grantedDepth s (a .t) (want j) j)) _ i _ _ (w .2) (omega (arith, l, start k .pre .1 .0 .1 .1 .0))
+          (sym (dry-depth s (a .t) i l (z .0 .0) (z .0 .1) (z .1) (want i))),
+      written-more (pos 0) (λ j. grantedDischarge s (a .t) (a .f) (want j) j) _ i _ _ (w .3) (omega (arith, l, start k .pre .1 .0 .1 .1 .1))
+          (sym (dry-discharge s (a .t) i l (z .0 .0) (z .0 .1) (z .1) (a .f) (want i))),
+      n .0,
+      n .1,
+      dry-same (leftSide s i) (rightSide s i) (leftSide s (i + 1)) (rightSide s (i + 1)) (w .6) (z .0) still,
+      w .7,
+      w .8 ∙ sym (and-true _) ∙ ap (λ (b : Bool). (sideMeets (a .t) (a .x) (leftSide s 0) && allBelow (i + 1) (λ j. sideMeets (a .t) (a .x) (rightSide s j))) && b) (sym (dry-meets s (a .t) (a .x) (i + 1) (z .1))) ∙ meets-more (sideMeets (a .t) (a .x) (leftSide s 0)) (λ j. sideMeets (a .t) (a .x) (rightSide s j)) i,
+      written-more 0 (λ j. granted s (a .t) (want j) j) _ i _ _ (w .9) (omega (arith, l, start k .pre .1 .0 .1 .0))
+          (sym (dry-granted s (a .t) i l (z .0 .0) (z .0 .1) (z .1) (want i))),
+      λ e. still,
+    )
+
+both-dry-requires : tie.Need-both-dry-requires Inv-loop μ-loop
+both-dry-requires c κs = (dry-turn (c .before) .before .loop .inv .4, next (c .before .before) .0)
+
 exchange-between-requires : tie.Need-exchange-between-requires Inv-loop μ-loop
 exchange-between-requires c κs =
-    let k = c .before .before .before .before in
+    let r = c .before .before .before .before in
+    let k = r .before .before .before in
     let o = k .before .before .before in
-    ((start k .pre .0 .0, (k .before .loop .inv .4, next (c .before) .0)), (span-of (o .before .before), table o .root-table .ensures))
+    ((start k .pre .0 .0, (k .before .loop .inv .4, next r .0)), (span-of (o .before .before), table o .root-table .ensures))
 
 mul-granted-of : tie.Need-mul-granted-of Inv-loop μ-loop
 mul-granted-of c = let l = index (turn c) in omega (arith, l .1)
@@ -248,7 +350,7 @@ depth-after-requires c κs =
     (start k .pre .0 .1 .cell (k .before .loop .i) (index k .0) .1 .0, (omega (arith, c .before .granted-of .ensures), (k .before .loop .inv .7, crossing (gives (c .before)) .1)))
 
 still-meets-requires-3 : tie.Need-still-meets-requires-3 Inv-loop μ-loop
-still-meets-requires-3 c κs = let g = gives (left-with c) in (start (turn g) .pre .0 .0, next (g .before .before) .0)
+still-meets-requires-3 c κs = let g = gives (left-with c) in (start (turn g) .pre .0 .0, next (g .before .before .before .before .before) .0)
 
 net-of-requires-2 : tie.Need-net-of-requires-2 Inv-loop μ-loop
 net-of-requires-2 c κs = crossing (gives (left-with (c .before))) .1
@@ -256,8 +358,8 @@ net-of-requires-2 c κs = crossing (gives (left-with (c .before))) .1
 add-new-discharge : tie.Need-add-new-discharge Inv-loop μ-loop
 add-new-discharge c = let l = index (cell-at c) in omega (arith, l .1)
 
-mul-new-discharge : tie.Need-mul-new-discharge Inv-loop μ-loop
-mul-new-discharge c = let l = index (cell-at c) in omega (arith, l .1)
+mul-new-discharge-2 : tie.Need-mul-new-discharge-2 Inv-loop μ-loop
+mul-new-discharge-2 c = let l = index (cell-at c) in omega (arith, l .1)
 
 slice-set-from-new-discharge : tie.Need-slice-set-from-new-discharge Inv-loop μ-loop
 slice-set-from-new-discharge c =
@@ -265,20 +367,20 @@ slice-set-from-new-discharge c =
     let l = index k in
     omega (arith, l .0, start k .pre .1 .0 .0, net-length k)
 
-mul-given : tie.Need-mul-given Inv-loop μ-loop
-mul-given c = let l = index (cell-at c) in omega (arith, l .1)
+mul-given-2 : tie.Need-mul-given-2 Inv-loop μ-loop
+mul-given-2 c = let l = index (cell-at c) in omega (arith, l .1)
 
-slice-write-given : tie.Need-slice-write-given Inv-loop μ-loop
-slice-write-given c =
+slice-write-given-2 : tie.Need-slice-write-given-2 Inv-loop μ-loop
+slice-write-given-2 c =
     let k = cell-at c in
     let l = index k in
     omega (arith, l .0, start k .pre .1 .0 .1 .0, k .before .loop .inv .9 .long)
 
-mul-new-depth : tie.Need-mul-new-depth Inv-loop μ-loop
-mul-new-depth c = let l = index (cell-at c) in omega (arith, l .1)
+mul-new-depth-2 : tie.Need-mul-new-depth-2 Inv-loop μ-loop
+mul-new-depth-2 c = let l = index (cell-at c) in omega (arith, l .1)
 
-slice-write-new-depth : tie.Need-slice-write-new-depth Inv-loop μ-loop
-slice-write-new-depth c =
+slice-write-new-depth-2 : tie.Need-slice-write-new-depth-2 Inv-loop μ-loop
+slice-write-new-depth-2 c =
     let k = cell-at c in
     let l = index k in
     omega (arith, l .0, start k .pre .1 .0 .1 .1 .0, k .before .loop .inv .2 .long)
@@ -311,8 +413,8 @@ momentum-after-requires c κs =
       (omega (arith, f .0, f .1), (omega (arith, f .0, l .rightward-most, r .leftward-most, d .depth-after .ensures), (l, r))),
     )
 
-mul-t52 : tie.Need-mul-t52 Inv-loop μ-loop
-mul-t52 c = let l = index (cell-at (c .before .before .before .before)) in omega (arith, l .1)
+mul-t60 : tie.Need-mul-t60 Inv-loop μ-loop
+mul-t60 c = let l = index (cell-at (c .before .before .before .before)) in omega (arith, l .1)
 
 slice-set-from-new-discharge-2 : tie.Need-slice-set-from-new-discharge-2 Inv-loop μ-loop
 slice-set-from-new-discharge-2 c =
@@ -320,14 +422,14 @@ slice-set-from-new-discharge-2 c =
     let l = index k in
     omega (arith, l .0, start k .pre .1 .0 .1 .1 .1, k .before .loop .inv .3 .long)
 
-add-i : tie.Need-add-i Inv-loop μ-loop
-add-i c = let l = index (cell-at (c .before .before .before .before)) in omega (arith, l .1)
+add-i-2 : tie.Need-add-i-2 Inv-loop μ-loop
+add-i-2 c = let l = index (cell-at (c .before .before .before .before)) in omega (arith, l .1)
 
-loop-less : tie.Need-loop-less Inv-loop μ-loop
-loop-less c = let l = index (cell-at (c .before .before .before .before)) in omega (arith, l .0)
+loop-less-2 : tie.Need-loop-less-2 Inv-loop μ-loop
+loop-less-2 c = let l = index (cell-at (c .before .before .before .before)) in omega (arith, l .0)
 
-loop-again : tie.Need-loop-again Inv-loop μ-loop
-loop-again c =
+loop-again-2 : tie.Need-loop-again-2 Inv-loop μ-loop
+loop-again-2 c =
     let e = c .before .before in
     let m = e .before .before in
     let d = m .before .before in
@@ -338,7 +440,8 @@ loop-again c =
     let s = flow (start k) in
     let a = start k .args in
     let l = index k .0 in
-    let n = next (g .before .before) in
+    let both = g .before .before in
+    let n = next (g .before .before .before .before .before) in
     let r = crossing g in
     let want : ℕ → ℕ = λ j. getD (now (a .given)) j 0 in
     let taken = left-with d .granted-of .ensures ∙ ap (min _) (w .9 .same i (omega arith)) in
@@ -357,6 +460,11 @@ loop-again c =
       m .before .still-meets3 .ensures ∙ ap₂ _&&_ (w .8) (ap (sideMeets (a .t) (a .x)) (n .1)) ∙ meets-more (sideMeets (a .t) (a .x) (leftSide s 0)) (λ j. sideMeets (a .t) (a .x) (rightSide s j)) i,
       written-more 0 (λ j. granted s (a .t) (want j) j) _ i _ _ (w .9) (omega (arith, l, start k .pre .1 .0 .1 .0))
           (taken ∙ sym (grant-by-crossings s (a .t) i l (w .6) (r .0) (want i))),
+      λ e.
+          let z = eqb-true (k .before .loop .cell .depth + both .before .before .before .right-side .result .depth) 0 (sym (both .both-dry .ensures) ∙ e) in (
+            ap (λ (d : Side). d .depth) (left-side-next s i ∙ sym (here k)) ∙ omega (arith, z),
+            ap (λ (d : Side). d .depth) (sym (n .1)) ∙ omega (arith, z),
+          ),
     )
 
 check-cfl-requires : tie.Need-check-cfl-requires Inv-loop μ-loop
@@ -420,6 +528,20 @@ sweep-spec =
     array-copy-out-right-side
     add-right-side
     right-side-requires
+    stays-dry-requires
+    add-net
+    mul-net
+    slice-set-of-net
+    mul-given
+    slice-write-given
+    mul-new-depth
+    slice-write-new-depth
+    mul-new-discharge
+    slice-set-of-new-discharge
+    add-i
+    loop-less
+    loop-again
+    both-dry-requires
     exchange-between-requires
     mul-granted-of
     shared-slice-read-granted-of
@@ -432,21 +554,21 @@ sweep-spec =
     still-meets-requires-3
     net-of-requires-2
     add-new-discharge
-    mul-new-discharge
+    mul-new-discharge-2
     slice-set-from-new-discharge
-    mul-given
-    slice-write-given
-    mul-new-depth
-    slice-write-new-depth
+    mul-given-2
+    slice-write-given-2
+    mul-new-depth-2
+    slice-write-new-depth-2
     conveyance-squared-requires
     mul-momentum-after
     shared-slice-copy-out-momentum-after
     momentum-after-requires
-    mul-t52
+    mul-t60
     slice-set-from-new-discharge-2
-    add-i
-    loop-less
-    loop-again
+    add-i-2
+    loop-less-2
+    loop-again-2
     check-cfl-requires
     same-length
     same-length-2
