@@ -51,12 +51,11 @@ pub fn move_outlets(mass: &[u64], base: &[u64], carried: &[i64], outlets: Outlet
         return outlets;
     }
     let count = outlets.count;
-    let old = outlets.list;
-    let mut list = old;
+    let mut list = outlets.list;
     let mut before = [0u64; CELLS_MOST];
     let mut k = 0;
     while k < count {
-        let o = old[k];
+        let o = list[k];
         let cell = o.cell as usize;
         let share = share_at(mass, base, carried, cell, before[cell], o.drawn);
         before[cell] = before[cell] + o.drawn;

@@ -37,13 +37,13 @@ abbrev columns : List ℕ → List ℕ → List ℤ → (count : ℕ) → List O
 columns m b c count l = massColumns m b c (drawnFrom (record { count = count; list = l })) 0 0
 
 abbrev Inv-loop : tie.InvT-loop
-Inv-loop mass base carried count old list₀ before₀ k₀ list before k =
+Inv-loop mass base carried count list₀ before₀ k₀ list before k =
     (k ≤ count)
-    × Written noOutlet (movedOutlet (columns mass base carried count old) (record { count = count; list = old })) old k list
-    × (before ≡ tabulate 512 (added old (amounts old) none k))
+    × Written noOutlet (movedOutlet (columns mass base carried count list₀) (record { count = count; list = list₀ })) list₀ k list
+    × (before ≡ tabulate 512 (added list₀ (amounts list₀) none k))
 
 abbrev μ-loop : tie.MeasureT-loop
-μ-loop mass base carried count old list₀ before₀ k₀ list before k = count - k
+μ-loop mass base carried count list₀ before₀ k₀ list before k = count - k
 
 -- the column at a cell: what the outlets before k have drawn of it
 before-at : (os : Outlets) (column : List ℕ) (k : ℕ) → column ≡ tabulate 512 (added (os .list) (amounts (os .list)) none k) → os .count ≤ 32 → k ≤ os .count → (i : ℕ) → i < 512
@@ -93,6 +93,10 @@ ready c = entry c .pre
 list-long : (s : tie.Start Inv-loop μ-loop) → length (s .args .outlets .list) ≡ 32
 list-long s = sym (length-map (s .args .outlets .list) _) ∙ s .good .1 .1 .1 .0 .1 .1 .1 .0 .1 .0 .1
 
+-- the outlet at hand has not been written yet
+here : (c : tie.In-loop Inv-loop μ-loop) → getD (c .before .loop .list) (c .before .loop .k) noOutlet ≡ outletAt (entry c .args .outlets) (c .before .loop .k)
+here c = c .before .loop .inv .1 .same (c .before .loop .k) (omega arith)
+
 inside : (c : tie.In-loop Inv-loop μ-loop) → (outletAt (entry c .args .outlets) (c .before .loop .k) .cell < length (now (entry c .args .mass))) × (outletAt (entry c .args .outlets) (c .before .loop .k) .cell < 512)
 inside c =
     let l = ready c .inside (c .before .loop .k) (c .loop-test .taken) in
@@ -115,7 +119,7 @@ share-now : (c : tie.After-share-at Inv-loop μ-loop) → (let k = c .before .be
 share-now c =
     let k = c .before .before in
     let a = entry k .args in
-    share-is (now (a .mass)) (now (a .base)) (now (a .carried)) (a .outlets) (ready k) (k .before .loop .k) (k .loop-test .taken) (c .share-at .result) (rw (column-at k) at (c .share-at .ensures))
+    share-is (now (a .mass)) (now (a .base)) (now (a .carried)) (a .outlets) (ready k) (k .before .loop .k) (k .loop-test .taken) (c .share-at .result) (rw (here k, column-at k) at (c .share-at .ensures))
 
 mul-o : tie.Need-mul-o Inv-loop μ-loop
 mul-o c = search needs
@@ -124,31 +128,31 @@ array-copy-out-o : tie.Need-array-copy-out-o Inv-loop μ-loop
 array-copy-out-o c = search needs
 
 mul-share-at : tie.Need-mul-share-at Inv-loop μ-loop
-mul-share-at c = let l = inside (c .before) in omega (arith, l .1)
+mul-share-at c = let l = inside (c .before) in rw (here (c .before)) (omega (arith, l .1))
 
 array-read-share-at : tie.Need-array-read-share-at Inv-loop μ-loop
-array-read-share-at c = inside (c .before) .1
+array-read-share-at c = rw (here (c .before)) (inside (c .before) .1)
 
 share-at-requires : tie.Need-share-at-requires Inv-loop μ-loop
 share-at-requires c κs =
     let k = c .before in
     let r = ready k .each 0 in
-    ((inside k .0, (r .bases, r .interfaces)), covered k)
+    rw (here k) ((inside k .0, (r .bases, r .interfaces)), covered k)
 
 mul-before : tie.Need-mul-before Inv-loop μ-loop
-mul-before c = let l = inside (c .before .before) in omega (arith, l .1)
+mul-before c = let l = inside (c .before .before) in rw (here (c .before .before)) (omega (arith, l .1))
 
 array-read-before : tie.Need-array-read-before Inv-loop μ-loop
-array-read-before c = inside (c .before .before) .1
+array-read-before c = rw (here (c .before .before)) (inside (c .before .before) .1)
 
 add-before : tie.Need-add-before Inv-loop μ-loop
-add-before c = let g = covered (c .before .before .before) in omega (arith, g .covered, g .deep)
+add-before c = let g = covered (c .before .before .before) in rw (here (c .before .before .before)) (omega (arith, g .covered, g .deep))
 
 mul-before-2 : tie.Need-mul-before-2 Inv-loop μ-loop
-mul-before-2 c = let l = inside (c .before .before .before) in omega (arith, l .1)
+mul-before-2 c = let l = inside (c .before .before .before) in rw (here (c .before .before .before)) (omega (arith, l .1))
 
 array-write-before : tie.Need-array-write-before Inv-loop μ-loop
-array-write-before c = inside (c .before .before .before) .1
+array-write-before c = rw (here (c .before .before .before)) (inside (c .before .before .before) .1)
 
 outlet-after-requires : tie.Need-outlet-after-requires Inv-loop μ-loop
 outlet-after-requires c κs =
@@ -156,7 +160,7 @@ outlet-after-requires c κs =
     let a = entry k .args in
     let at = k .before .loop .k in
     let l = k .loop-test .taken in
-    (ready k .totals at l, rw (share-now (c .before)) (outlet-share-small (now (a .mass)) (now (a .base)) (now (a .carried)) (a .outlets) _ at (inside k .0) (ready k .each _) l))
+    rw (here k) (ready k .totals at l, rw (share-now (c .before)) (outlet-share-small (now (a .mass)) (now (a .base)) (now (a .carried)) (a .outlets) _ at (inside k .0) (ready k .each _) l))
 
 mul-list : tie.Need-mul-list Inv-loop μ-loop
 mul-list c = let l = ready (c .before .before .before .before) .few in omega (arith, c .before .before .before .before .loop-test .taken, l)
@@ -183,8 +187,8 @@ loop-again c =
     let drawn : getD (amounts (a .outlets .list)) at 0 ≡ o .drawn = getD-tabulate 32 (λ n. getD (a .outlets .list) n noOutlet .drawn) at 0 (omega (arith, l, ready k .few)) in (
       omega (arith, l),
       written-more noOutlet (movedOutlet (columns (now (a .mass)) (now (a .base)) (now (a .carried)) (a .outlets .count) (a .outlets .list)) (a .outlets)) (a .outlets .list) at _ _ (w .1) (omega (arith, l, ready k .few, list-long (entry k)))
-          (c .outlet-after .ensures ∙ ap (λ (x : ℕ). record { cell = o .cell; want = o .want; drawn = 0; water = o .water; mass = o .mass + x }) s),
-      added-more (a .outlets .list) (amounts (a .outlets .list)) none at (k .before .loop .before) _ (w .2) (inside k .1) (ap (λ (x : ℕ). getD (k .before .loop .before) (o .cell) 0 + x) (sym drawn)),
+          (rw (here k) at (c .outlet-after .ensures) ∙ ap (λ (x : ℕ). record { cell = o .cell; want = o .want; drawn = 0; water = o .water; mass = o .mass + x }) s),
+      rw (here k) (added-more (a .outlets .list) (amounts (a .outlets .list)) none at (k .before .loop .before) _ (w .2) (inside k .1) (ap (λ (x : ℕ). getD (k .before .loop .before) (o .cell) 0 + x) (sym drawn))),
     )
 
 -- the list as the loop leaves it, with all outlets passed
