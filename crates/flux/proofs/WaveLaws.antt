@@ -21,6 +21,10 @@ pub wave-speed-least : (h a : ℕ) → 14_709_975 * h ≤ 1_000_000 * (a * a) �
 unfolding waveSpeed
 wave-speed-least h a l = reaching-least _ _ _ (waveSpeed h) a refl (omega (arith, l))
 
+-- so a number whose square is below 3gh/2 is below it
+pub wave-speed-above : (h a : ℕ) → 1_000_000 * (a * a) < 14_709_975 * h → a < waveSpeed h
+wave-speed-above h a m = square-lt a (waveSpeed h) (omega (arith, m, wave-speed-meets h))
+
 pub wave-speed-mono : (h k : ℕ) → h ≤ k → waveSpeed h ≤ waveSpeed k
 wave-speed-mono h k l = wave-speed-least h (waveSpeed k) (omega (arith, l, wave-speed-meets k))
 
@@ -36,7 +40,7 @@ wave-speed-most h l = omega (arith, wave-speed-mono h depthMost l, wave-speed-le
 -- and the only one: a search ends in this law
 pub wave-speed-is : (h a : ℕ) → 1_000_000 * (a * a) < 14_709_975 * h → 14_709_975 * h ≤ 1_000_000 * ((a + 1) * (a + 1)) → waveSpeed h ≡ a + 1
 wave-speed-is h a m l =
-    omega (arith, wave-speed-least h (a + 1) l, square-lt a (waveSpeed h) (omega (arith, m, wave-speed-meets h)))
+    omega (arith, wave-speed-least h (a + 1) l, wave-speed-above h a m)
 
 -- one step of Heron's rule from any g, rounded down, ends at most one below the root of y/s: its square is at least the product of the parts it is the mean of
 pub heron-above : (s y g q a : ℕ) → y < s * g * (q + 1) → g + q < 2 * (a + 1) → y ≤ s * ((a + 1) * (a + 1))
