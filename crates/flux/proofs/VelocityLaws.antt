@@ -1,6 +1,6 @@
 -- The parts of a velocity, and its size. Assumes nothing.
 use mathlib.Core.Path.{_≡_, refl, sym, ap, _∙_}
-use Prim.Native.Nat.{ℕ, zero, suc, _+_, _*_, _/_, _≤_}
+use Prim.Native.Nat.{ℕ, zero, suc, _*_, _/_, _≤_}
 use mathlib.Core.Logic.{⊎-elim}
 use native.Mathlib.Nat.{zero-div, div-zero, div-le-of-le-mul}
 use native.Mathlib.Omega.{arith}
