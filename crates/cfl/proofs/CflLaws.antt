@@ -1,11 +1,11 @@
 -- Laws of CFL: the signal speed is small, the fastest place has the greatest speed and is the highest that has it, and the greatest step
 -- is the one that this speed allows. Assumes nothing.
-use mathlib.Core.Path.{_≡_, refl, sym, ap, subst, _∙_}
+use mathlib.Core.Path.{_≡_, sym, ap, subst, _∙_}
 use mathlib.Core.Bool.{Bool, true, false, cond}
 use mathlib.Core.List.{List}
 use mathlib.Core.Logic.{⊎-elim}
 use Prim.Native.Nat.{ℕ, zero, suc, _+_, _*_, _/_, _≤_, _<_, zero-le}
-use native.Mathlib.Nat.{le-div-iff-mul-le, le-antisymm, le-trans, eq-or-lt-of-le, le-of-suc-le-suc, mul-le-mul-left, mul-le-mul-right, div-mul-le-self}
+use native.Mathlib.Nat.{le-div-iff-mul-le, le-antisymm, le-trans, eq-or-lt-of-le, le-of-suc-le-suc, lt-of-not-le, mul-le-mul-left, mul-le-mul-right, div-mul-le-self}
 use native.Mathlib.Numerals.{add-one}
 use native.Mathlib.Omega.{arith}
 use lib.IntN.{ℤ, pos, natAbs}
@@ -64,10 +64,10 @@ module _ (X v : ℕ) where
 
 -- ---- the fastest place
 
--- what makes p the fastest of the places 0..k
-record Leads (speed : ℕ → ℕ) (k p : ℕ) : Type 0 where
+-- what makes p the fastest of the places j..k
+pub record Leads (speed : ℕ → ℕ) (j k p : ℕ) : Type 0 where
   within : p ≤ k
-  greatest : (i : ℕ) → i ≤ k → speed i ≤ speed p
+  greatest : (i : ℕ) → j ≤ i → i ≤ k → speed i ≤ speed p
   highest : (i : ℕ) → p < i → i ≤ k → speed i < speed p
 
 -- the last place, or one before it
@@ -78,29 +78,32 @@ by-last P k i l f g = ⊎-elim (λ e. subst P (sym e) f) (λ m. g (le-of-suc-le-
 by-most : (a b : ℕ) (P : Bool → Type 0) → (a ≤ b → P true) → (b < a → P false) → P (leb a b)
 by-most a b P f g = by-test (leb a b) P (λ t. f (leb→le a b t)) (λ t. g (nleb→lt a b t))
 
--- a place and its speed are those of the fastest of the places 0..k
-abbrev pub FastestIs : (speed : ℕ → ℕ) (k place v : ℕ) → Type 0
-FastestIs speed k place v = (place ≡ fastestPlace speed k) × (v ≡ speed place)
+-- p is the fastest of the places j..k, and v its speed
+abbrev pub FastestFrom : (speed : ℕ → ℕ) (j k p v : ℕ) → Type 0
+FastestFrom speed j k p v = Leads speed j k p × (v ≡ speed p)
 
 module _ (speed : ℕ → ℕ) where
-  leads : (k : ℕ) → Leads speed k (fastestPlace speed k)
-  unfolding fastestPlace
-  leads zero = record {
+  alone : (k : ℕ) → Leads speed k k k
+  alone k = record {
     within = omega arith;
-    greatest = λ i l. omega (arith, ap speed (le-antisymm l zero-le));
+    greatest = λ i l m. omega (arith, ap speed (le-antisymm m l));
     highest = λ i l m. absurd (omega arith);
   }
+
+  leads : (k : ℕ) → Leads speed 0 k (fastestPlace speed k)
+  unfolding fastestPlace
+  leads zero = alone 0
   leads (suc k) =
       let old = leads k in
-      by-most (speed (fastestPlace speed k)) (speed (suc k)) (λ b. Leads speed (suc k) (cond b (suc k) (fastestPlace speed k)))
+      by-most (speed (fastestPlace speed k)) (speed (suc k)) (λ b. Leads speed 0 (suc k) (cond b (suc k) (fastestPlace speed k)))
       (λ asFast. record {
         within = omega arith;
-        greatest = λ i l. by-last (λ i. speed i ≤ speed (suc k)) k i l (omega arith) (λ m. omega (arith, old .greatest i m));
+        greatest = λ i z l. by-last (λ i. speed i ≤ speed (suc k)) k i l (omega arith) (λ m. omega (arith, old .greatest i z m));
         highest = λ i l m. absurd (omega arith);
       })
       (λ slower. record {
         within = omega arith;
-        greatest = λ i l. by-last (λ i. speed i ≤ speed (fastestPlace speed k)) k i l (omega arith) (old .greatest i);
+        greatest = λ i z l. by-last (λ i. speed i ≤ speed (fastestPlace speed k)) k i l (omega arith) (old .greatest i z);
         highest = λ i l m. by-last (λ i. speed i < speed (fastestPlace speed k)) k i m slower (old .highest i l);
       })
 
@@ -108,26 +111,47 @@ module _ (speed : ℕ → ℕ) where
   fastest-within k = leads k .within
 
   pub fastest-greatest : (k i : ℕ) → i ≤ k → speed i ≤ speed (fastestPlace speed k)
-  fastest-greatest k = leads k .greatest
+  fastest-greatest k i = leads k .greatest i zero-le
 
   pub fastest-highest : (k i : ℕ) → fastestPlace speed k < i → i ≤ k → speed i < speed (fastestPlace speed k)
   fastest-highest k = leads k .highest
 
-  -- ---- place by place, as the code goes
+  -- ---- from the right to the left, as the code goes
 
-  pub fastest-first : FastestIs speed 0 0 (speed 0)
-  unfolding fastestPlace
-  fastest-first = (refl, refl)
+  pub from-last : (k p v : ℕ) → p ≡ k → v ≡ speed k → FastestFrom speed k k p v
+  from-last k p v e m = rw e (alone k, m)
 
-  pub fastest-raised : (k place v w : ℕ) → FastestIs speed k place v → w ≡ speed (k + 1) → v ≤ w → FastestIs speed (k + 1) (k + 1) w
-  unfolding fastestPlace
-  fastest-raised k place v w f e l =
-      (rw add-one (rw (le-leb (speed (fastestPlace speed k)) (speed (suc k)) (rw (f .1, f .0, e, add-one) at l))), e)
+  -- the next place at the left, of speed w, is taken where it is faster
+  pub from-taken : (i j k p v q w : ℕ) → FastestFrom speed i k p v → i ≡ j + 1 → j ≤ k → q ≡ j → w ≡ speed j → v < w → FastestFrom speed j k q w
+  from-taken i j k p v q w f n l e m faster =
+      rw e (
+        record {
+          within = l;
+          greatest = λ x y z. ⊎-elim (λ d. omega (arith, ap speed d)) (λ d. omega (arith, f .0 .greatest x (omega arith) z)) (eq-or-lt-of-le y);
+          highest = λ x y z. omega (arith, f .0 .greatest x (omega arith) z);
+        },
+        m,
+      )
 
-  pub fastest-kept : (k place v w : ℕ) → FastestIs speed k place v → w ≡ speed (k + 1) → w < v → FastestIs speed (k + 1) place v
-  unfolding fastestPlace
-  fastest-kept k place v w f e l =
-      (rw add-one (rw (lt-leb (speed (fastestPlace speed k)) (speed (suc k)) (rw (f .1, f .0, e, add-one) at l)) (f .0)), f .1)
+  -- and passed over where it is not
+  pub from-passed : (i j k p v w : ℕ) → FastestFrom speed i k p v → i ≡ j + 1 → w ≡ speed j → w ≤ v → FastestFrom speed j k p v
+  from-passed i j k p v w f n m slower = (
+    record {
+      within = f .0 .within;
+      greatest = λ x y z. ⊎-elim (λ d. omega (arith, ap speed d)) (λ d. f .0 .greatest x (omega arith) z) (eq-or-lt-of-le y);
+      highest = f .0 .highest;
+    },
+    f .1,
+  )
+
+  -- no lower place leads than another that does
+  not-lower : (k p q : ℕ) → Leads speed 0 k p → Leads speed 0 k q → q ≤ p
+  not-lower k p q f g = le-of-suc-le-suc (lt-of-not-le (λ l. omega (arith, f .highest q l (g .within), g .greatest p zero-le (f .within))))
+
+  -- so that, all places passed, it is the fastest
+  pub from-first : (k p v : ℕ) → FastestFrom speed 0 k p v → (p ≡ fastestPlace speed k) × (v ≡ speed p)
+  from-first k p v f =
+      (le-antisymm (not-lower k (fastestPlace speed k) p (leads k) (f .0)) (not-lower k p (fastestPlace speed k) (f .0) (leads k)), f .1)
 
   -- ---- the greatest step
 

@@ -2,21 +2,25 @@
 ghost use mathlib.Core.Path.{_≡_};
 ghost use Prim.Native.Nat.{_+_, _≤_};
 ghost use lib.ListN.{length};
-ghost use Rattle.numbers.specs.Table.{RootTable};
-ghost use Rattle.flux.specs.Limits.{cellLengthLeast, cellLengthMost};
-ghost use Rattle.cfl.specs.Cfl.{signalSpeed, speedAt, fastestPlace};
-ghost use Rattle.cfl.specs.Ranges.{Flowing, FlowColumns, stepFor};
-use flux::velocity::velocity_parts;
+ghost use lib.Dec.{ltb};
+ghost use Rattle.flux.specs.Limits.{depthMost, cellLengthLeast, cellLengthMost};
+ghost use Rattle.flux.specs.Wave.{waveSpeed};
+ghost use Rattle.cfl.specs.Cfl.{speedAt, fastestPlace};
+ghost use Rattle.cfl.specs.Ranges.{FlowColumns, stepFor};
+use flux::velocity::flow_speed;
 use flux::wave::wave_speed;
 use numbers::root::root_table;
 
-// |u|+a of one cell, mm/s
-pub fn signal_speed(h: u64, q: i64, roots: &[u16; 64]) -> u64
-    requires { ⌜ Flowing h q × RootTable (now roots) ⌝ }
-    ensures { λ r. ⌜ (r ≡ signalSpeed h q) × (r ≤ 16_000) ⌝ }
+// Whether v + a(h) is above `least`, told without a root: what v leaves of `least` is below a(h) where its square is below 3gh/2
+fn is_above(h: u64, v: u64, least: u64) -> bool
+    requires { ⌜ (h ≤ depthMost) × (least ≤ 16_000) ⌝ }
+    ensures { λ r. ⌜ r ≡ ltb least (v + waveSpeed h) ⌝ }
 {
-    let u = velocity_parts(h, q);
-    u.right + u.left + wave_speed(h, roots)
+    if least < v {
+        return true;
+    }
+    let rest = least - v;
+    1_000_000 * (rest * rest) < 14_709_975 * h
 }
 
 // The place of the greatest |u|+a, the highest among equals, and that speed
@@ -25,28 +29,30 @@ pub struct Fastest {
     pub speed: u64,
 }
 
-// Among all cells and both boundaries, whose speeds are given
+// Among all cells and both boundaries, whose speeds are given. From the right to the left, so that a cell is taken only where it is faster than all
+// that are passed: a root is drawn for those alone, in level water for one.
 pub fn fastest_of(depth: &[u64], discharge: &[i64], left: u64, right: u64) -> Fastest
-    requires { ⌜ FlowColumns (now depth) (now discharge) ⌝ }
+    requires { ⌜ FlowColumns (now depth) (now discharge) × ((left ≤ 16_000) × (right ≤ 16_000)) ⌝ }
     ensures { λ r. ⌜ (r .place ≡ fastestPlace (speedAt (now (depth .entry)) (now (discharge .entry)) left right) (length (now (depth .entry)) + 1)) × (r .speed ≡ speedAt (now (depth .entry)) (now (discharge .entry)) left right (r .place)) ⌝ }
 {
     let n = depth.len();
     let roots = root_table();
-    let mut place = 0;
-    let mut speed = left;
-    let mut i = 0;
-    while i < n {
-        let v = signal_speed(depth[i], discharge[i], &roots);
-        if speed <= v {
-            speed = v;
+    let mut place = n + 1;
+    let mut speed = right;
+    let mut i = n;
+    while 0 < i {
+        i -= 1;
+        let h = depth[i];
+        let v = flow_speed(h, discharge[i]);
+        if is_above(h, v, speed) {
+            speed = v + wave_speed(h, &roots);
             place = i + 1;
         }
-        i += 1;
     }
-    if speed <= right {
+    if speed < left {
         return Fastest {
-            place: n + 1,
-            speed: right,
+            place: 0,
+            speed: left,
         };
     }
     Fastest { place, speed }

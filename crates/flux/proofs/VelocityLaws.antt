@@ -1,12 +1,12 @@
 -- The parts of a velocity, and its size. Assumes nothing.
 use mathlib.Core.Path.{_≡_, refl, sym, ap, _∙_}
-use Prim.Native.Nat.{ℕ, zero, suc, _+_, _*_, _/_, _≤_}
+use Prim.Native.Nat.{ℕ, zero, suc, _*_, _/_, _≤_}
 use mathlib.Core.Logic.{⊎-elim}
 use native.Mathlib.Nat.{zero-div, div-zero, div-le-of-le-mul}
 use native.Mathlib.Omega.{arith}
 use lib.IntN.{ℤ, pos, negsuc, negℤ, natAbs, negℤ-negℤ}
 use Rattle.numbers.specs.Signed.{positive}
-use Rattle.numbers.proofs.SignedLaws.{R, L, pos-cross, abs-parts, one-part}
+use Rattle.numbers.proofs.SignedLaws.{R, L, pos-cross, one-part, abs-neg}
 use Rattle.flux.specs.Velocity.{velocity}
 
 pub velocity-right : (h : ℕ) (q : ℤ) → R (velocity h q) ≡ R q / h
@@ -29,15 +29,15 @@ unfolding velocity
 velocity-dry (pos n) = ap pos (div-zero n)
 velocity-dry (negsuc n) = ap (λ (k : ℕ). negℤ (pos k)) (div-zero (suc n))
 
+-- its size is the quotient of the sizes
+pub velocity-size : (h : ℕ) (q : ℤ) → natAbs (velocity h q) ≡ natAbs q / h
+unfolding velocity
+velocity-size h (pos n) = refl
+velocity-size h (negsuc n) = abs-neg (pos (suc n / h))
+
 -- a discharge of at most v times the depth has a velocity of at most v
 pub velocity-most : (v h : ℕ) (q : ℤ) → natAbs q ≤ v * h → natAbs (velocity h q) ≤ v
-velocity-most v h q l =
-    let right : R q / h ≤ v = div-le-of-le-mul h (omega (arith, abs-parts q)) in
-    let left : L q / h ≤ v = div-le-of-le-mul h (omega (arith, abs-parts q)) in
-    let a = abs-parts (velocity h q) in
-    let r = velocity-right h q in
-    let k = velocity-left h q in
-    ⊎-elim (λ e. omega arith) (λ e. omega arith) (one-part (velocity h q))
+velocity-most v h q l = rw velocity-size (div-le-of-le-mul h (omega arith))
 
 -- ---- the parts of u from the part of q that is not 0
 

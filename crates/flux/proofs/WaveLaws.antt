@@ -6,7 +6,7 @@ use native.Mathlib.Omega.{arith}
 use lib.Dec.{lit≤}
 use Rattle.numbers.specs.Root.{squareRootCeil}
 use Rattle.numbers.proofs.SearchLaws.{reaching-meets, reaching-least}
-use Rattle.numbers.proofs.RootLaws.{le-square, square-root-meets, square-root-least}
+use Rattle.numbers.proofs.RootLaws.{square-lt, le-square, square-root-meets, square-root-least}
 use Rattle.flux.specs.Wave.{waveSpeed}
 use Rattle.flux.specs.Limits.{depthMost}
 use Rattle.flux.specs.Ranges.{waveMost}
@@ -20,6 +20,10 @@ wave-speed-meets h = omega (arith, reaching-meets _ _ _ (waveSpeed h) refl (omeg
 pub wave-speed-least : (h a : ℕ) → 14_709_975 * h ≤ 1_000_000 * (a * a) → waveSpeed h ≤ a
 unfolding waveSpeed
 wave-speed-least h a l = reaching-least _ _ _ (waveSpeed h) a refl (omega (arith, l))
+
+-- so a number whose square is below 3gh/2 is below it
+pub wave-speed-above : (h a : ℕ) → 1_000_000 * (a * a) < 14_709_975 * h → a < waveSpeed h
+wave-speed-above h a m = square-lt a (waveSpeed h) (omega (arith, m, wave-speed-meets h))
 
 pub wave-speed-mono : (h k : ℕ) → h ≤ k → waveSpeed h ≤ waveSpeed k
 wave-speed-mono h k l = wave-speed-least h (waveSpeed k) (omega (arith, l, wave-speed-meets k))

@@ -102,7 +102,7 @@ unfolding cellSide
 cell-fits s k i l =
     let c = k .cell i l in record { depth = c .depth; velocity = velocity-most velocityMost (depthAt s i) (dischargeAt s i) (c .discharge) }
 
-speed-most : (s : Reach) → Sound s → (i : ℕ) → placeSpeed s i ≤ 16_000
+pub speed-most : (s : Reach) → Sound s → (i : ℕ) → placeSpeed s i ≤ 16_000
 unfolding placeSpeed speedAt leftSpeed rightSpeed
 speed-most s k zero = boundary-most Left (leftBoundary (s .held .boundaries)) (cellSide s 0) (k .left) (cell-fits s k 0 (k .some))
 speed-most s k (suc i) =

@@ -1,6 +1,6 @@
 -- `timestep::greatest_step` meets its contract. Assumes refusedWith.
 use mathlib.Core.Path.{_≡_, sym, ap, _∙_}
-use Prim.Native.Nat.{ℕ, _-_, _*_, _≤_, _<_}
+use Prim.Native.Nat.{ℕ, _+_, _-_, _*_, _≤_, _<_}
 use native.Mathlib.Omega.{arith}
 use lib.IntN.{natAbs}
 use lib.ListN.{length}
@@ -12,7 +12,7 @@ use Rattle.reach.specs.declared.refusal.Check.{Check}
 use Rattle.reach.specs.declared.refusal.Check.the-variants.{Pass}
 use Rattle.reach.proofs.Sound.{Sound, sound}
 use Rattle.timestep.specs.GreatestStep.{refusedWith, boundarySpeed, leftSpeed, rightSpeed}
-use Rattle.timestep.proofs.GreatestLaws.{columns-flow, stopped, found}
+use Rattle.timestep.proofs.GreatestLaws.{columns-flow, stopped, place-left, place-right, speed-most, found}
 use Rattle.water.specs.Ranges.{InRange, sideOf, SideStateFits}
 use Rattle.water.specs.Sides.{cellSide, boundarySide}
 use borrow.Author.Needs.{needs, sfits-of}
@@ -145,24 +145,33 @@ boundary-speed-requires-2 c κs =
     let k = checked (t .before) .right in
     ((last l .0, (k .depth, k .discharge)), t .root-table .ensures)
 
+-- what the boundaries give
+left-is : (c : tie.After-boundary-speed) → c .boundary-speed .result ≡ leftSpeed (reach (start (c .before .before .before .before .before .before .before .before .before .before .before .before .before .before)))
+unfolding leftSpeed
+left-is c = c .boundary-speed .ensures ∙ ap (boundarySpeed _ _) (first (c .before .before .before .before .before .before .before .before) .1)
+
+right-is : (c : tie.After-boundary-speed2) → c .boundary-speed2 .result ≡ rightSpeed (reach (start (c .before .before .before .before .before .before .before .before .before .before .before .before .before .before .before .before .before)))
+unfolding rightSpeed
+right-is c = c .boundary-speed2 .ensures ∙ ap (boundarySpeed _ _) (last (c .before .before .before .before .before .before) .1)
+
 fastest-of-requires : tie.Need-fastest-of-requires
-fastest-of-requires c κs = let e = c .before .before .before .before .before .before .before .before .before .before .before .before .before .before .before .before .before in columns-flow (reach (start e)) (checked e)
+fastest-of-requires c κs =
+    let e = c .before .before .before .before .before .before .before .before .before .before .before .before .before .before .before .before .before in
+    let s = reach (start e) in
+    let k = checked e in
+    let left = left-is (c .before .before .before) in
+    let right = right-is c in
+    (columns-flow s k, (omega (arith, place-left s, speed-most s k 0), omega (arith, place-right s (k .depths), speed-most s k (cells s + 1))))
 
 longest-step-requires : tie.Need-longest-step-requires
 longest-step-requires c κs = let k = checked (c .before .before .before .before .before .before .before .before .before .before .before .before .before .before .before .before .before .before) in (k .lengthLeast, k .lengthMost)
 
 returns-2 : tie.Need-returns-2
-unfolding leftSpeed rightSpeed
 returns-2 c =
-    let l = c .before .before .before .before .before .before .before .before in
-    let r = c .before .before .before .before .before .before .before .before .before .before .before .before .before in
-    let e = r .before .before .before .before .before .before in
-    let s = reach (start e) in
+    let r = c .before .before in
+    let e = r .before .before .before .before .before .before .before .before .before .before .before .before .before .before .before .before .before in
     let f = c .before .fastest-of .ensures in
-    found s _ _ _ _ _ (passed e)
-    (c .before .before .before .before .before .boundary-speed .ensures ∙ ap (boundarySpeed _ _) (first r .1))
-    (c .before .before .boundary-speed2 .ensures ∙ ap (boundarySpeed _ _) (last l .1))
-    (checked e .depths) (f .0) (f .1) (c .longest-step .ensures)
+    found (reach (start e)) _ _ _ _ _ (passed e) (left-is (r .before .before .before)) (right-is r) (checked e .depths) (f .0) (f .1) (c .longest-step .ensures)
 
 pub greatest-step-spec : {M : Type 1} → statement M
 greatest-step-spec =

@@ -27,13 +27,20 @@ sub-if1 c = short (c .before) .0
 add-result : tie.Need-add-result
 add-result c =
     let k = c .before .before .before in
-    fits-le (one-more _ _ _ (k .before .pre .some) (short k) (c .if1 .taken) .1) (k .before .fits .n)
+    let s = k .before .args in
+    fits-le (one-more (s .n) (s .d .value) (k .upper-half .result) (k .before .pre .some) (short k) (omega (arith, c .if1 .taken)) .1) (k .before .fits .n)
 
 returns : tie.Need-returns
-returns c = let k = c .before .before .before in one-more _ _ _ (k .before .pre .some) (short k) (c .if1 .taken) .0
+returns c =
+    let k = c .before .before .before in
+    let s = k .before .args in
+    one-more (s .n) (s .d .value) (k .upper-half .result) (k .before .pre .some) (short k) (omega (arith, c .if1 .taken)) .0
 
 returns-2 : tie.Need-returns-2
-returns-2 c = let k = c .before .before .before in none-more _ _ _ (k .before .pre .some) (short k) (c .if1 .left)
+returns-2 c =
+    let k = c .before .before .before in
+    let s = k .before .args in
+    none-more (s .n) (s .d .value) (k .upper-half .result) (k .before .pre .some) (short k) (omega (arith, c .if1 .left))
 
 pub quotient-spec : {M : Type 1} → statement M
 quotient-spec = tie.close (tie.spec upper-half-requires mul-if1 sub-if1 add-result returns returns-2)
