@@ -18,16 +18,13 @@ use numbers::signed::magnitude;
 use numbers::signed::within;
 use outlet::Outlets;
 
-// The size of l is looked at before. That no more left than the base depth is tested of each side by itself: what both and the outlets took leaves h, which is
-// not below 0.
-fn carried_fits(h: u64, b: u64, l: i64, r: i64, drawn: u64) -> bool
+// The size of l is looked at before, and that of r follows: r is at most what is kept of b, and it is a level, not below 0, less h. That no more left than the base depth is
+// tested of each side by itself: what both and the outlets took leaves h, which is not below 0.
+pub fn carried_fits(h: u64, b: u64, l: i64, r: i64, drawn: u64) -> bool
     requires { ⌜ (h ≤ depthMost) × ((b ≤ depthMost) × (drawn ≤ 1_000_000_000)) ⌝ }
     requires { ⌜ natAbs l ≤ carriedMost ⌝ }
     ensures { λ t. ⌜ t ≡ carriedFits h b l r (drawn ∷ []) ⌝ }
 {
-    if !within(r, 4_000_000) {
-        return false;
-    }
     let base = b as i64;
     let kept = base - drawn as i64;
     if kept < 0 {
@@ -40,7 +37,7 @@ fn carried_fits(h: u64, b: u64, l: i64, r: i64, drawn: u64) -> bool
     if level < 0 {
         return false;
     }
-    level - r == h as i64
+    level - h as i64 == r
 }
 
 // At a wall nothing is carried.
