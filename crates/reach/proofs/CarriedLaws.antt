@@ -7,6 +7,7 @@ use Prim.Native.Nat.{ℕ, _+_, _≤_, _<_}
 use native.Mathlib.Omega.{arith}
 use lib.IntN.{ℤ, pos, _+ℤ_, _-ℤ_, natAbs}
 use lib.Dec.{leb, eqb}
+use lib.ListN.{getD}
 use mir.Syntax.{w64}
 use mir.Facts.{toZ-ofZ}
 use mir.Val.{SFits, toZ, ofZ}
@@ -14,7 +15,7 @@ use borrow.Author.Tests.{le-leb, lt-leb, eq-eqb, ne-eqb, eqb-true, eqb-false}
 use Rattle.numbers.specs.Index.{allOf, sum}
 use Rattle.numbers.specs.Signed.{eqℤ}
 use Rattle.numbers.proofs.IndexLaws.{on, off, only}
-use Rattle.numbers.proofs.SignedLaws.{R, L, one-part, abs-parts, eqℤ-is, add-cross, minus-cross, from-cross, pos-cross}
+use Rattle.numbers.proofs.SignedLaws.{R, L, one-part, abs-parts, mag-abs, eqℤ-is, add-cross, minus-cross, from-cross, pos-cross}
 use Rattle.flux.specs.Limits.{depthMost}
 use Rattle.reach.specs.Limits.{carriedMost}
 use Rattle.reach.specs.Grounds.{carriedFits}
@@ -61,6 +62,9 @@ carried-is h b l r ds {leftIn} {leftOut} {rightIn} {rightOut} {drawn} p q s t d 
 
 -- ---- l in range: what is left to test, as the code does it
 
+pub small-fits : (z : ℤ) → natAbs z ≤ 2_000_000_000 → SFits w64 z
+small-fits z l = record { sfits = omega (arith, mag-abs z) }
+
 -- two words
 pub same-word : (y z : ℤ) → SFits w64 y → SFits w64 z → eqb (ofZ w64 y) (ofZ w64 z) ≡ eqb (R y + L z) (R z + L y)
 same-word y z f g = go (eqb (ofZ w64 y) (ofZ w64 z)) refl
@@ -100,6 +104,12 @@ module _ (h b : ℕ) (l r : ℤ) (d : ℕ) (left : natAbs l ≤ carriedMost) whe
           (one-part l) in
           sym (on _ _ (le-leb (L r + R r) depthMost right) (on _ _ refl (only _ ∙ le-leb (R r + L l + d) b all)))
       go false p = sym (second-off (leb (L r + R r) depthMost) _ refl)
+
+-- ---- cell by cell
+
+-- of cell i
+abbrev pub carriedAt : (h b : List ℕ) (c : List ℤ) (drawn : ℕ → List ℕ) → ℕ → Bool
+carriedAt h b c drawn i = carriedFits (getD h i 0) (getD b i 0) (getD c i (pos 0)) (getD c (i + 1) (pos 0)) (drawn i)
 
 -- no outlet says the same as one that has drawn nothing
 pub none-drawn : (h b : ℕ) (l r : ℤ) → carriedFits h b l r (0 ∷ []) ≡ carriedFits h b l r []

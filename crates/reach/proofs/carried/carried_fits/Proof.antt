@@ -8,13 +8,10 @@ use mir.Syntax.{w64}
 use mir.Val.{SFits, toZ, ofZ}
 use mir.Facts.{toZ-ofZ, toZ-pos}
 use borrow.Author.Needs.{needs}
-use Rattle.numbers.proofs.SignedLaws.{R, L, abs-parts, abs-add, abs-neg, mag-abs, one-part, add-cross, minus-cross, pos-cross, ltZ-true, ltZ-false}
-use Rattle.reach.proofs.CarriedLaws.{crossed-test, same-word, uncovered, covered}
+use Rattle.numbers.proofs.SignedLaws.{R, L, abs-parts, abs-add, abs-neg, one-part, add-cross, minus-cross, pos-cross, ltZ-true, ltZ-false}
+use Rattle.reach.proofs.CarriedLaws.{crossed-test, small-fits, same-word, uncovered, covered}
 use Rattle.reach.proofs.carried.carried_fits.Statement.{statement}
 use Rattle.reach.proofs.carried.carried_fits.Tie as tie
-
-small-fits : (z : ℤ) → natAbs z ≤ 2_000_000_000 → SFits w64 z
-small-fits z l = record { sfits = omega (arith, mag-abs z) }
 
 -- what the machine computes
 module _ (s : tie.Start) where
