@@ -47,6 +47,7 @@ fn check_plain_cells(
     Check::Pass
 }
 
+// The cells, then the walls and the ledger
 pub fn check_plain(
     bed: &[i64],
     depth: &[u64],

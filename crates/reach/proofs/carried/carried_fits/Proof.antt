@@ -58,29 +58,29 @@ cast-kept : tie.Need-cast-kept
 cast-kept c = search needs
 
 sub-kept : tie.Need-sub-kept
-sub-kept c = rw (base-read c, drawn-read c) (small-fits (kept c) (omega (arith, kept-small c)))
+sub-kept c = simp (base-read c, drawn-read c) (small-fits (kept c) (omega (arith, kept-small c)))
 
 returns : tie.Need-returns
 returns c =
     let s = c .before in
-    let t = ltZ-true (kept s) (pos 0) (rw (base-read s, drawn-read s, kept-read s) at (c .if1 .taken)) in
+    let t = ltZ-true (kept s) (pos 0) (simp (base-read s, drawn-read s, kept-read s) at (c .if1 .taken)) in
     uncovered _ _ _ _ _ (s .pre .1) (omega (arith, t, kept-parts s))
 
 returns-2 : tie.Need-returns-2
 returns-2 c =
     let s = c .before .before in
-    let t = ltZ-true (kept s) (s .args .r) (rw (base-read s, drawn-read s, kept-read s, toZ-ofZ (s .fits .r)) at (c .if2 .taken)) in
+    let t = ltZ-true (kept s) (s .args .r) (simp (base-read s, drawn-read s, kept-read s, toZ-ofZ (s .fits .r)) at (c .if2 .taken)) in
     uncovered _ _ _ _ _ (s .pre .1) (omega (arith, t, kept-parts s))
 
 add-level : tie.Need-add-level
 add-level c =
     let s = c .before .before in
-    rw (base-read s, drawn-read s, kept-read s, toZ-ofZ (s .fits .l)) (small-fits (level s) (omega (arith, level-small s)))
+    simp (base-read s, drawn-read s, kept-read s, toZ-ofZ (s .fits .l)) (small-fits (level s) (omega (arith, level-small s)))
 
 returns-3 : tie.Need-returns-3
 returns-3 c =
     let s = c .before .before .before in
-    let t = ltZ-true (level s) (pos 0) (rw (base-read s, drawn-read s, kept-read s, toZ-ofZ (s .fits .l), level-read s) at (c .if3 .taken)) in
+    let t = ltZ-true (level s) (pos 0) (simp (base-read s, drawn-read s, kept-read s, toZ-ofZ (s .fits .l), level-read s) at (c .if3 .taken)) in
     uncovered _ _ _ _ _ (s .pre .1) (omega (arith, t, add-cross (kept s) (s .args .l), kept-parts s))
 
 cast-result : tie.Need-cast-result
@@ -89,17 +89,17 @@ cast-result c = search needs
 sub-result : tie.Need-sub-result
 sub-result c =
     let s = c .before .before .before in
-    rw (base-read s, drawn-read s, kept-read s, toZ-ofZ (s .fits .l), level-read s, depth-read s) (found-fits s)
+    simp (base-read s, drawn-read s, kept-read s, toZ-ofZ (s .fits .l), level-read s, depth-read s) (found-fits s)
 
 returns-4 : tie.Need-returns-4
 returns-4 c =
     let s = c .before .before .before in
     let a = s .args in
-    let k = ltZ-false (kept s) (pos 0) (rw (base-read s, drawn-read s, kept-read s) at (c .before .before .if1 .left)) in
-    let r = ltZ-false (kept s) (a .r) (rw (base-read s, drawn-read s, kept-read s, toZ-ofZ (s .fits .r)) at (c .before .if2 .left)) in
-    let l = ltZ-false (level s) (pos 0) (rw (base-read s, drawn-read s, kept-read s, toZ-ofZ (s .fits .l), level-read s) at (c .if3 .left)) in
+    let k = ltZ-false (kept s) (pos 0) (simp (base-read s, drawn-read s, kept-read s) at (c .before .before .if1 .left)) in
+    let r = ltZ-false (kept s) (a .r) (simp (base-read s, drawn-read s, kept-read s, toZ-ofZ (s .fits .r)) at (c .before .if2 .left)) in
+    let l = ltZ-false (level s) (pos 0) (simp (base-read s, drawn-read s, kept-read s, toZ-ofZ (s .fits .l), level-read s) at (c .if3 .left)) in
     let parts = add-cross (kept s) (a .l) in
-    rw (base-read s, drawn-read s, kept-read s, toZ-ofZ (s .fits .l), level-read s, depth-read s)
+    simp (base-read s, drawn-read s, kept-read s, toZ-ofZ (s .fits .l), level-read s, depth-read s)
     (same-word (found s) (a .r) (found-fits s) (s .fits .r)
     ∙ crossed-test (R (found s) + L (a .r)) (R (a .r) + L (found s)) (a .h + L (a .l) + R (a .r) + a .drawn) (a .b + R (a .l) + L (a .r)) (omega (arith, minus-cross (level s) (pos (a .h)), pos-cross (a .h), parts, kept-parts s))
     ∙ covered _ _ _ _ _ (s .pre .1) (s .pre .0 .0) (s .pre .0 .1 .0) (omega (arith, k, kept-parts s)) (omega (arith, r, kept-parts s)) (omega (arith, l, parts, kept-parts s)))
