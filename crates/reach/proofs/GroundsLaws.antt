@@ -7,6 +7,7 @@ use native.Mathlib.Omega.{arith}
 use borrow.Author.Tests.{ltb-true}
 use lib.Dec.{ltb}
 use lib.ListN.{getD}
+use Rattle.numbers.specs.Index.{allOf}
 use Rattle.numbers.proofs.IndexLaws.{and-left, and-right}
 use Rattle.reach.specs.Grounds.{Ground, ground, firstRefusal, passOr}
 use Rattle.reach.specs.declared.refusal.Check.{Check}
@@ -52,6 +53,11 @@ pub stop-at : (g : Ground) (gs : List Ground) → g .stands ≡ false → firstR
 unfolding firstRefusal
 stop-at g gs e = rw e refl
 
+-- one that stands says nothing
+pub second-stands : (g k : Ground) (gs : List Ground) → k .stands ≡ true → firstRefusal (g ∷ k ∷ gs) ≡ firstRefusal (g ∷ gs)
+unfolding firstRefusal
+second-stands g k gs e = rw e refl
+
 pub last-one : (n : ℕ) (t : Bool) → firstRefusal (ground n t ∷ []) ≡ passOr n t
 unfolding firstRefusal
 last-one n true = refl
@@ -77,6 +83,14 @@ pub no-further : (gs hs : List Ground) (n : ℕ) → firstRefusal gs ≡ Refused
 unfolding firstRefusal
 no-further [] hs n e = cc
 no-further (g ∷ gs) hs n e = failed (g .stands) (firstRefusal gs) (firstRefusal (gs ++ hs)) (g .number) n e (λ p. no-further gs hs n p)
+
+-- after one of two grounds that fails, where the second asks more and others follow
+pub no-further-within : (m n : ℕ) (a b : Bool) (ts : List Bool) (gs : List Ground) (k : Check) (x : ℕ) →
+    k ≡ firstRefusal (ground m a ∷ ground n b ∷ []) → k ≡ Refused x → k ≡ firstRefusal (ground m a ∷ ground n (allOf (b ∷ ts)) ∷ gs)
+unfolding firstRefusal allOf
+no-further-within m n true true ts gs k x p q = cc
+no-further-within m n true false ts gs k x p q = p
+no-further-within m n false b ts gs k x p q = p
 
 -- ---- a refusal has a number that is not 0, where each ground of the list has
 

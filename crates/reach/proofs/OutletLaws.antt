@@ -21,7 +21,8 @@ use Rattle.flux.specs.Limits.{depthMost}
 use Rattle.reach.specs.declared.held.Held.{Held}
 use Rattle.reach.specs.Parts.{drawnFrom}
 use Rattle.reach.specs.Grounds.{carriedFits, carriedCellsFit, carriedFit, outletFits, outletsFit, ledgerFits, allTotalsFit}
-use Rattle.reach.specs.Ranges.{CarriedColumns, Clear, alone, cutDrawn}
+use Rattle.reach.specs.Ranges.{CarriedColumns, Clear, alone, undrawn, cutDrawn}
+use Rattle.reach.proofs.CarriedLaws.{carriedAt}
 use Rattle.reach.proofs.PartsLaws.{outflow-is, sum-single}
 use Rattle.reach.proofs.Sound.{CarriedSound, carried-sound, carried-stands, outlets-few}
 
@@ -88,8 +89,7 @@ pub same-ground : (h b : List ℕ) (c : List ℤ) (os : Outlets) (d : List ℕ) 
     → carriedFit h b c (alone d) left right ≡ carriedFit h b c (drawnFrom os) left right
 unfolding carriedFit carriedCellsFit
 same-ground h b c os d left right k f e =
-    let test : (ℕ → List ℕ) → ℕ → Bool = λ (ds : ℕ → List ℕ) (i : ℕ). carriedFits (getD h i 0) (getD b i 0) (getD c i (pos 0)) (getD c (i + 1) (pos 0)) (ds i) in
-    rw (all-same (test (alone d)) (test (drawnFrom os)) (length h) (λ i l.
+    rw (all-same (carriedAt h b c (alone d)) (carriedAt h b c (drawnFrom os)) (length h) (λ i l.
     rw (at-cell os d e i (omega (arith, l, k .few)))
     (carried-cut os (outlets-few (length h) os f) (getD h i 0) (getD b i 0) (getD c i (pos 0)) (getD c (i + 1) (pos 0)) i (k .base i l)))) refl
 
@@ -102,6 +102,10 @@ none-fit n os e = rw e refl
 pub none-total : (h : Held) → h .outlets .count ≡ 0 → allTotalsFit h ≡ ledgerFits (h .ledger)
 unfolding allTotalsFit allBelow allOf
 none-total h e = rw e (and-true (ledgerFits (h .ledger)))
+
+pub none-drawn-from : (h b : List ℕ) (c : List ℤ) (os : Outlets) (left right : ℕ) → os .count ≡ 0 → carriedFit h b c undrawn left right ≡ carriedFit h b c (drawnFrom os) left right
+unfolding carriedFit carriedCellsFit fromCell tabulate
+none-drawn-from h b c os left right e = rw e refl
 
 pub none-cut : (os : Outlets) (d : List ℕ) → os .count ≡ 0 → Clear d → d ≡ tabulate 512 (cutDrawn os)
 unfolding byCell sumBelow

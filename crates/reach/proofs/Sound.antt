@@ -20,6 +20,7 @@ use Rattle.reach.specs.Limits.{cellsMost, carriedMost, totalMost, wall, 
 use Rattle.reach.specs.Reach.{Reach, cells, bedAt, depthAt, dischargeAt, massAt, baseAt, carriedAt, leftBoundary, rightBoundary}
 use Rattle.reach.specs.Grounds.{firstRefusal, recordGrounds, passOr, lengthsFit, cellLengthFits, wallFits, openFits, fedFits, kindFits, boundaryFits, boundariesFit, cellFits, cellsFit, carriedFits, shutFits, carriedCellsFit, carriedFit, totalsFit, ledgerFits, outletFits, outletsFit, allTotalsFit}
 use Rattle.reach.specs.Parts.{outflow, drawnFrom}
+use Rattle.reach.specs.Ranges.{ColumnLengths}
 use Rattle.reach.specs.declared.boundary.Boundary.{Boundary}
 use Rattle.reach.specs.declared.held.Held.{Held}
 use Rattle.reach.specs.declared.ledger.Totals.{Totals}
@@ -32,13 +33,8 @@ use Rattle.reach.proofs.PartsLaws.{outflow-is}
 -- ---- 4
 
 pub record LengthsSound (z h q m b c : ℕ) : Type 0 where
-  pub some : 1 ≤ z
+  pub columns : ColumnLengths z h q m b c
   pub few : z ≤ cellsMost
-  pub depths : h ≡ z
-  pub discharges : q ≡ z
-  pub masses : m ≡ z
-  pub bases : b ≡ z
-  pub interfaces : c ≡ z + 1
 
 module _ (z h q m b c : ℕ) where
   pub lengths-sound : lengthsFit z h q m b c ≡ true → LengthsSound z h q m b c
@@ -46,20 +42,20 @@ module _ (z h q m b c : ℕ) where
   lengths-sound e =
       let t = all-of _ e in
       record {
-        some = leb-true _ _ (t 0);
+        columns = record {
+          cells = record { depths = eqb-true _ _ (t 2); discharges = eqb-true _ _ (t 3); masses = eqb-true _ _ (t 4); bases = eqb-true _ _ (t 5) };
+          some = leb-true _ _ (t 0);
+          interfaces = eqb-true _ _ (t 6);
+        };
         few = leb-true _ _ (t 1);
-        depths = eqb-true _ _ (t 2);
-        discharges = eqb-true _ _ (t 3);
-        masses = eqb-true _ _ (t 4);
-        bases = eqb-true _ _ (t 5);
-        interfaces = eqb-true _ _ (t 6);
       }
 
   lengths-stand : LengthsSound z h q m b c → lengthsFit z h q m b c ≡ true
   unfolding lengthsFit
   lengths-stand s =
-      on _ _ (le-leb _ _ (s .some)) (on _ _ (le-leb _ _ (s .few)) (on _ _ (eq-eqb _ _ (s .depths)) (on _ _ (eq-eqb _ _ (s .discharges))
-      (on _ _ (eq-eqb _ _ (s .masses)) (on _ _ (eq-eqb _ _ (s .bases)) (only _ ∙ eq-eqb _ _ (s .interfaces)))))))
+      let k = s .columns .cells in
+      on _ _ (le-leb _ _ (s .columns .some)) (on _ _ (le-leb _ _ (s .few)) (on _ _ (eq-eqb _ _ (k .depths)) (on _ _ (eq-eqb _ _ (k .discharges))
+      (on _ _ (eq-eqb _ _ (k .masses)) (on _ _ (eq-eqb _ _ (k .bases)) (only _ ∙ eq-eqb _ _ (s .columns .interfaces)))))))
 
 -- ---- 6
 
@@ -107,7 +103,7 @@ pub record CellSound (z : ℤ) (h : ℕ) (q : ℤ) (m b : ℕ) : Type 0 where
   pub mass : m ≤ concentrationMost * b
 
 module _ (z : ℤ) (h : ℕ) (q : ℤ) (m b : ℕ) where
-  cell-sound : cellFits z h q m b ≡ true → CellSound z h q m b
+  pub cell-sound : cellFits z h q m b ≡ true → CellSound z h q m b
   unfolding cellFits
   cell-sound e =
       let t = all-of _ e in
@@ -124,6 +120,10 @@ module _ (z : ℤ) (h : ℕ) (q : ℤ) (m b : ℕ) where
   cell-stands s =
       on _ _ (le-leb _ _ (s .bed)) (on _ _ (le-leb _ _ (s .depth)) (on _ _ (le-leb _ _ (s .discharge))
       (on _ _ (le-leb _ _ (s .base)) (only _ ∙ le-leb _ _ (s .mass)))))
+
+-- of cell i
+abbrev pub cellAt : List ℤ → List ℕ → List ℤ → List ℕ → List ℕ → ℕ → Bool
+cellAt z h q m b i = cellFits (getD z i (pos 0)) (getD h i 0) (getD q i (pos 0)) (getD m i 0) (getD b i 0)
 
 pub cells-sound : (z : List ℤ) (h : List ℕ) (q : List ℤ) (m b : List ℕ) → cellsFit z h q m b ≡ true → (i : ℕ) → i < length z → CellSound (getD z i (pos 0)) (getD h i 0) (getD q i (pos 0)) (getD m i 0) (getD b i 0)
 unfolding cellsFit
@@ -253,13 +253,13 @@ module _ (s : Reach) (es : List Boundary) where
       let boundaries = all-of _ (t 2) in
       let water = all-of _ (t 6) in
       record {
-        some = n .some;
+        some = n .columns .some;
         few = n .few;
-        depths = n .depths;
-        discharges = n .discharges;
-        masses = n .masses;
-        bases = n .bases;
-        interfaces = n .interfaces;
+        depths = n .columns .cells .depths;
+        discharges = n .columns .cells .discharges;
+        masses = n .columns .cells .masses;
+        bases = n .columns .cells .bases;
+        interfaces = n .columns .interfaces;
         lengthLeast = leb-true _ _ (x 0);
         lengthMost = leb-true _ _ (x 1);
         left = boundary-sound _ (boundaries 0);
@@ -268,7 +268,7 @@ module _ (s : Reach) (es : List Boundary) where
         cell = cells-sound _ _ _ _ _ (t 4);
         water = λ i l. carried-sound _ _ _ _ _ (all-at _ (length (s .depth)) i (water 0) (omega arith));
         shutLeft = shut-sound _ _ (water 1);
-        shutRight = rw (n .depths) at (shut-sound (rightBoundary (s .held .boundaries) .kind) (carriedAt s (length (s .depth))) (water 2));
+        shutRight = rw (n .columns .cells .depths) at (shut-sound (rightBoundary (s .held .boundaries) .kind) (carriedAt s (length (s .depth))) (water 2));
         outlets = t 5;
         totals = t 7;
       }
@@ -280,13 +280,12 @@ module _ (s : Reach) (es : List Boundary) where
   unfolding cellLengthFits cellsFit carriedFit carriedCellsFit
   stands k g =
       let lengths : LengthsSound (cells s) (length (s .depth)) (length (s .discharge)) (length (s .mass)) (length (s .base)) (length (s .carried)) = record {
-        some = k .some;
+        columns = record {
+          cells = record { depths = k .depths; discharges = k .discharges; masses = k .masses; bases = k .bases };
+          some = k .some;
+          interfaces = k .interfaces;
+        };
         few = k .few;
-        depths = k .depths;
-        discharges = k .discharges;
-        masses = k .masses;
-        bases = k .bases;
-        interfaces = k .interfaces;
       } in
       let last = rw (← k .depths) at (k .shutRight) in
       go-on _ _ (lengths-stand _ _ _ _ _ _ lengths)

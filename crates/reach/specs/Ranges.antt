@@ -18,6 +18,12 @@ pub record CellLengths (z h q m b : ℕ) : Type 0 where
   pub masses : m ≡ z
   pub bases : b ≡ z
 
+-- and there is one interface more than cells, of which there is one at least
+pub record ColumnLengths (z h q m b c : ℕ) : Type 0 where
+  pub cells : CellLengths z h q m b
+  pub some : 1 ≤ z
+  pub interfaces : c ≡ z + 1
+
 -- depths and base depths are in range, and there is one interface more than cells, of which there is one at least
 pub record CarriedColumns (h b : List ℕ) (c : List ℤ) : Type 0 where
   pub some : 1 ≤ length h
@@ -41,6 +47,10 @@ pub record Clear (column : List ℕ) : Type 0 where
 -- what is drawn of each cell, as one number
 abbrev pub alone : List ℕ → (i : ℕ) → List ℕ
 alone d i = getD d i 0 ∷ []
+
+-- of no cell anything: what a list without outlets has drawn
+abbrev pub undrawn : (i : ℕ) → List ℕ
+undrawn i = []
 
 -- what the outlets of cell i have drawn together, each cut at one more than any base depth: no such sum passes 64 bits, whatever a list holds, and
 -- ground 8 says the same of it (`carried-cut`)

@@ -2,10 +2,10 @@
 ghost use mathlib.Core.Path.{_≡_};
 ghost use mathlib.Core.Bool.{true};
 ghost use mathlib.Core.List.{[], _∷_};
-ghost use Prim.Native.Nat.{_≤_};
-ghost use lib.IntN.{natAbs};
-ghost use lib.ListN.{length};
-ghost use Rattle.numbers.specs.Index.{tabulate};
+ghost use Prim.Native.Nat.{_≤_, _<_};
+ghost use lib.IntN.{pos, natAbs};
+ghost use lib.ListN.{length, getD};
+ghost use Rattle.numbers.specs.Index.{allOf, tabulate};
 ghost use Rattle.flux.specs.Limits.{depthMost};
 ghost use Rattle.reach.specs.Limits.{cellsMost, carriedMost};
 ghost use Rattle.reach.specs.Grounds.{carriedFits, carriedCellsFit, shutFits, carriedFit, outletsFit, passOr};
@@ -18,16 +18,13 @@ use numbers::signed::magnitude;
 use numbers::signed::within;
 use outlet::Outlets;
 
-// The size of l is looked at before. That no more left than the base depth is tested of each side by itself: what both and the outlets took leaves h, which is
-// not below 0.
-fn carried_fits(h: u64, b: u64, l: i64, r: i64, drawn: u64) -> bool
+// The size of l is looked at before, and that of r follows: r is at most what is kept of b, and it is a level, not below 0, less h. That no more left than the base depth is
+// tested of each side by itself: what both and the outlets took leaves h, which is not below 0.
+pub fn carried_fits(h: u64, b: u64, l: i64, r: i64, drawn: u64) -> bool
     requires { ⌜ (h ≤ depthMost) × ((b ≤ depthMost) × (drawn ≤ 1_000_000_000)) ⌝ }
     requires { ⌜ natAbs l ≤ carriedMost ⌝ }
     ensures { λ t. ⌜ t ≡ carriedFits h b l r (drawn ∷ []) ⌝ }
 {
-    if !within(r, 4_000_000) {
-        return false;
-    }
     let base = b as i64;
     let kept = base - drawn as i64;
     if kept < 0 {
@@ -40,7 +37,7 @@ fn carried_fits(h: u64, b: u64, l: i64, r: i64, drawn: u64) -> bool
     if level < 0 {
         return false;
     }
-    level - r == h as i64
+    level - h as i64 == r
 }
 
 // At a wall nothing is carried.
@@ -51,6 +48,17 @@ fn shut_fits(kind: u32, c: i64) -> bool
         return true;
     }
     magnitude(c) == 0
+}
+
+// Both boundaries of n cells
+pub fn walls_fit(carried: &[i64], n: usize, left_kind: u32, right_kind: u32) -> bool
+    requires { ⌜ n < length (now carried) ⌝ }
+    ensures { λ r. ⌜ r ≡ allOf (shutFits «left_kind» (getD (now (carried .entry)) 0 (pos 0)) ∷ shutFits «right_kind» (getD (now (carried .entry)) n (pos 0)) ∷ []) ⌝ }
+{
+    if !shut_fits(left_kind, carried[0]) {
+        return false;
+    }
+    shut_fits(right_kind, carried[n])
 }
 
 fn check_carried_cells(depth: &[u64], base: &[u64], carried: &[i64], drawn: &[u64]) -> Check
@@ -67,30 +75,6 @@ fn check_carried_cells(depth: &[u64], base: &[u64], carried: &[i64], drawn: &[u6
             return Check::Refused(8);
         }
         i += 1;
-    }
-    Check::Pass
-}
-
-// `drawn` is what the outlets of each cell have drawn together.
-pub fn check_carried_with(
-    depth: &[u64],
-    base: &[u64],
-    carried: &[i64],
-    drawn: &[u64],
-    left_kind: u32,
-    right_kind: u32,
-) -> Check
-    requires { ⌜ CarriedLengths (now depth) (now base) (now carried) (now drawn) ⌝ }
-    ensures { λ r. ⌜ r ≡ passOr 8 (carriedFit (now (depth .entry)) (now (base .entry)) (now (carried .entry)) (alone (now (drawn .entry))) «left_kind» «right_kind») ⌝ }
-{
-    let Check::Pass = check_carried_cells(depth, base, carried, drawn) else {
-        return Check::Refused(8);
-    };
-    if !shut_fits(left_kind, carried[0]) {
-        return Check::Refused(8);
-    }
-    if !shut_fits(right_kind, carried[depth.len()]) {
-        return Check::Refused(8);
     }
     Check::Pass
 }
@@ -112,5 +96,11 @@ pub fn check_carried(
     ensures { λ _. ⌜ now (drawn .exit) ≡ tabulate cellsMost (cutDrawn outlets) ⌝ }
 {
     drawn_by_cell(outlets, drawn);
-    check_carried_with(depth, base, carried, drawn, left_kind, right_kind)
+    let Check::Pass = check_carried_cells(depth, base, carried, drawn) else {
+        return Check::Refused(8);
+    };
+    if !walls_fit(carried, depth.len(), left_kind, right_kind) {
+        return Check::Refused(8);
+    }
+    Check::Pass
 }

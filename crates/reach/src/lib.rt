@@ -9,52 +9,28 @@ pub mod cells;
 pub mod held;
 pub mod ledger;
 pub mod outlets;
+pub mod plain;
 pub mod refusal;
 
 ghost use mathlib.Core.Path.{_≡_};
-ghost use mathlib.Core.List.{[], _∷_};
 ghost use Rattle.numbers.specs.Index.{tabulate};
 ghost use Rattle.reach.specs.Limits.{cellsMost};
-ghost use Rattle.reach.specs.Ranges.{CarriedLengths, Clear, alone, cutDrawn};
+ghost use Rattle.reach.specs.Ranges.{Clear, cutDrawn};
 ghost use Rattle.reach.specs.declared.refusal.Check.the-variants.{Pass};
 ghost use Rattle.reach.specs.Reach.{came};
-ghost use Rattle.reach.specs.Grounds.{ground, recordGrounds, firstRefusal, carriedFit, ledgerFits};
+ghost use Rattle.reach.specs.Grounds.{recordGrounds, firstRefusal};
 use boundary::Boundary;
 use boundary::check_boundaries;
 use carried::check_carried;
-use carried::check_carried_with;
 use cells::CELLS_MOST;
 use cells::check_cell_length;
 use cells::check_cells;
 use cells::check_lengths;
 use held::Held;
 use held::check_totals;
-use ledger::Ledger;
-use ledger::ledger_fits;
 use outlets::check_outlets;
+use plain::check_plain;
 use refusal::Check;
-
-// Grounds 8 and 9 of a record with no outlet, so that its list is not copied
-fn check_plain(
-    depth: &[u64],
-    base: &[u64],
-    carried: &[i64],
-    drawn: &[u64],
-    left_kind: u32,
-    right_kind: u32,
-    ledger: Ledger,
-) -> Check
-    requires { ⌜ CarriedLengths (now depth) (now base) (now carried) (now drawn) ⌝ }
-    ensures { λ r. ⌜ r ≡ firstRefusal (ground 8 (carriedFit (now (depth .entry)) (now (base .entry)) (now (carried .entry)) (alone (now (drawn .entry))) «left_kind» «right_kind») ∷ ground 9 (ledgerFits ledger) ∷ []) ⌝ }
-{
-    let Check::Pass = check_carried_with(depth, base, carried, drawn, left_kind, right_kind) else {
-        return Check::Refused(8);
-    };
-    if !ledger_fits(ledger) {
-        return Check::Refused(9);
-    }
-    Check::Pass
-}
 
 // Grounds 4 to 7, 16, 8 and 9: the checking order of every call on a record. A call that is given a new pair of boundaries has it checked as `given`; any other gives the pair
 // that it holds. `drawn`, a column of zeros, is left with what the outlets of each cell have drawn together.
@@ -86,21 +62,23 @@ pub fn check_record_with(
     let Check::Pass = check_boundaries(given) else {
         return Check::Refused(6);
     };
-    let Check::Pass = check_cells(bed, depth, discharge, mass, base) else {
-        return Check::Refused(7);
-    };
     if held.outlets.count == 0 {
         let ledger = held.ledger;
         return check_plain(
+            bed,
             depth,
+            discharge,
+            mass,
             base,
             carried,
-            drawn,
             held.boundaries[0].kind,
             held.boundaries[1].kind,
             ledger,
         );
     }
+    let Check::Pass = check_cells(bed, depth, discharge, mass, base) else {
+        return Check::Refused(7);
+    };
     let outlets = held.outlets;
     let Check::Pass = check_outlets(bed.len(), outlets) else {
         return Check::Refused(16);

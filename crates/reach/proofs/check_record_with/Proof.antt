@@ -1,7 +1,7 @@
 -- `reach::check_record_with` meets its contract: ground by ground. Assumes nothing.
-use mathlib.Core.Path.{_≡_, refl, sym, ap₂, _∙_}
-use mathlib.Core.List.{List, [], _∷_}
-use mathlib.Core.Bool.{Bool, true}
+use mathlib.Core.Path.{_≡_, refl, sym, _∙_}
+use mathlib.Core.List.{List}
+use mathlib.Core.Bool.{true}
 use Prim.Native.Nat.{ℕ}
 use native.Mathlib.Omega.{arith}
 use denote.Ref.{now}
@@ -9,8 +9,8 @@ use lib.ListN.{getD, drop}
 use Rattle.reach.specs.Reach.{reachOf}
 use Rattle.reach.specs.Grounds.{Ground, ground, firstRefusal, recordGrounds}
 use Rattle.reach.specs.Ranges.{CarriedColumns}
-use Rattle.reach.proofs.OutletLaws.{same-ground, none-fit, none-total, none-cut}
-use Rattle.reach.proofs.GroundsLaws.{passed, refused-by, go-on, stop-at, last-one, never}
+use Rattle.reach.proofs.OutletLaws.{none-fit, none-total, none-cut, none-drawn-from}
+use Rattle.reach.proofs.GroundsLaws.{passed, refused-by, go-on, stop-at, second-stands, last-one, never}
 use Rattle.reach.proofs.Sound.{lengths-sound, cells-sound, outlets-few}
 use borrow.Author.Needs.{needs}
 use Rattle.reach.proofs.check_record_with.Statement.{statement}
@@ -43,10 +43,10 @@ abbrev given : tie.After-enum-told7 → tie.After-enum-told5
 given c = c .before .before .before
 
 abbrev seven : tie.After-enum-told9 → tie.After-enum-told7
-seven c = c .before .before .before
+seven c = c .before .before .before .before
 
 abbrev sixteen : tie.After-enum-told11 → tie.After-enum-told9
-sixteen c = c .before .before .before .before .before
+sixteen c = c .before .before .before .before
 
 abbrev eight : tie.After-enum-told13 → tie.After-enum-told11
 eight c = c .before .before .before .before .before .before
@@ -137,10 +137,28 @@ enum-told-8 c = search needs
 returns-4 : tie.Need-returns-4
 returns-4 c = (sym (after-held (c .before .before .before) ∙ stop-at _ _ (refused-by 6 _ _ _ (c .before .before .check-boundaries2 .ensures) (c .enum-told8 .given .1))), λ e. never _ _ _ e)
 
+element-copy-out-check-plain : tie.Need-element-copy-out-check-plain
+element-copy-out-check-plain c = search needs
+
+element-copy-out-check-plain-2 : tie.Need-element-copy-out-check-plain-2
+element-copy-out-check-plain-2 c = search needs
+
+check-plain-requires : tie.Need-check-plain-requires
+check-plain-requires c κs = lengths-sound _ _ _ _ _ _ (lengths-fit (five (held (given (c .before .before))))) .columns
+
+-- no outlet: 16 stands, and `drawn` stays as it came
+returns-5 : tie.Need-returns-5
+returns-5 c =
+    let t = c .before .before .before in
+    let s = four (five (held (given t))) in
+    let e = c .before .before .if1 .taken in (
+      (rw (none-drawn-from _ _ _ (s .args .t8 .outlets) _ _ e, ← none-total (s .args .t8) e) at (c .check-plain .ensures))
+          ∙ sym (after-given t ∙ second-stands _ _ _ (none-fit _ _ e)),
+      λ q. none-cut _ _ e (s .pre),
+    )
+
 check-cells-requires : tie.Need-check-cells-requires
-check-cells-requires c κs =
-    let n = lengths-sound _ _ _ _ _ _ (lengths-fit (five (held (given c)))) in
-    record { depths = n .depths; discharges = n .discharges; masses = n .masses; bases = n .bases }
+check-cells-requires c κs = lengths-sound _ _ _ _ _ _ (lengths-fit (five (held (given (c .before))))) .columns .cells
 
 enum-told-9 : tie.Need-enum-told-9
 enum-told-9 c = search needs
@@ -148,8 +166,8 @@ enum-told-9 c = search needs
 enum-told-10 : tie.Need-enum-told-10
 enum-told-10 c = search needs
 
-returns-5 : tie.Need-returns-5
-returns-5 c = (sym (after-given (c .before .before .before) ∙ stop-at _ _ (refused-by 7 _ _ _ (c .before .before .check-cells .ensures) (c .enum-told10 .given .1))), λ e. never _ _ _ e)
+returns-6 : tie.Need-returns-6
+returns-6 c = (sym (after-given (c .before .before .before .before) ∙ stop-at _ _ (refused-by 7 _ _ _ (c .before .before .check-cells .ensures) (c .enum-told10 .given .1))), λ e. never _ _ _ e)
 
 -- the columns that ground 8 looks at
 columns : (c : tie.After-enum-told9) → (let a = four (five (held (given (seven c)))) .args in CarriedColumns (now (a .depth)) (now (a .base)) (now (a .carried)))
@@ -165,34 +183,6 @@ columns c =
       base = λ i l. cell i (omega arith) .base;
     }
 
-element-copy-out-check-plain : tie.Need-element-copy-out-check-plain
-element-copy-out-check-plain c = search needs
-
-element-copy-out-check-plain-2 : tie.Need-element-copy-out-check-plain-2
-element-copy-out-check-plain-2 c = search needs
-
-check-plain-requires : tie.Need-check-plain-requires
-check-plain-requires c κs =
-    let t = c .before .before .before in
-    let z = four (five (held (given (seven t)))) .pre in
-    let k = columns t in
-    record { columns = k; long = omega (arith, k .few, z .long); drawn-most = λ i l. omega (arith, z .zeros i) }
-
-same-length : tie.Need-same-length
-same-length c = search needs
-
-returns-6 : tie.Need-returns-6
-returns-6 c =
-    let t = c .before .before .before .before in
-    let s = four (five (held (given (seven t)))) in
-    let e = c .before .before .before .if1 .taken in
-    let d = none-cut _ _ e (s .pre) in (
-      c .check-plain .ensures
-          ∙ ap₂ (λ (x y : Bool). firstRefusal (ground 8 x ∷ ground 9 y ∷ [])) (same-ground _ _ _ (s .args .t8 .outlets) _ _ _ (columns t) (none-fit _ _ e) d) (sym (none-total (s .args .t8) e))
-          ∙ sym (after-cells t ∙ go-on _ _ (none-fit _ _ e) refl),
-      λ q. d,
-    )
-
 check-outlets-requires : tie.Need-check-outlets-requires
 check-outlets-requires c κs = search needs
 
@@ -203,7 +193,7 @@ enum-told-12 : tie.Need-enum-told-12
 enum-told-12 c = search needs
 
 returns-7 : tie.Need-returns-7
-returns-7 c = (sym (after-cells (c .before .before .before .before .before) ∙ stop-at _ _ (refused-by 16 _ _ _ (c .before .before .check-outlets .ensures) (c .enum-told12 .given .1))), λ e. never _ _ _ e)
+returns-7 c = (sym (after-cells (c .before .before .before .before) ∙ stop-at _ _ (refused-by 16 _ _ _ (c .before .before .check-outlets .ensures) (c .enum-told12 .given .1))), λ e. never _ _ _ e)
 
 element-copy-out-check-carried : tie.Need-element-copy-out-check-carried
 element-copy-out-check-carried c = search needs
@@ -215,7 +205,7 @@ check-carried-requires : tie.Need-check-carried-requires
 check-carried-requires c κs =
     let k = c .before in
     let n = lengths-sound _ _ _ _ _ _ (lengths-fit (five (held (given (seven (sixteen k)))))) in
-    (columns (sixteen k), (rw (n .depths) (outlets-fit k), four (five (held (given (seven (sixteen k))))) .pre))
+    (columns (sixteen k), (rw (n .columns .cells .depths) (outlets-fit k), four (five (held (given (seven (sixteen k))))) .pre))
 
 enum-told-13 : tie.Need-enum-told-13
 enum-told-13 c = search needs
@@ -223,8 +213,8 @@ enum-told-13 c = search needs
 enum-told-14 : tie.Need-enum-told-14
 enum-told-14 c = search needs
 
-same-length-2 : tie.Need-same-length-2
-same-length-2 c = search needs
+same-length : tie.Need-same-length
+same-length c = search needs
 
 returns-8 : tie.Need-returns-8
 returns-8 c = (sym (after-outlets (c .before .before .before .before .before .before) ∙ stop-at _ _ (refused-by 8 _ _ _ (c .before .before .before .before .check-carried .ensures .0) (c .enum-told14 .given .1))), λ e. never _ _ _ e)
@@ -238,14 +228,14 @@ enum-told-15 c = search needs
 enum-told-16 : tie.Need-enum-told-16
 enum-told-16 c = search needs
 
-same-length-3 : tie.Need-same-length-3
-same-length-3 c = search needs
+same-length-2 : tie.Need-same-length-2
+same-length-2 c = search needs
 
 returns-9 : tie.Need-returns-9
 returns-9 c = (sym (after-carried (c .before .before .before) ∙ stop-at _ _ (refused-by 9 _ _ _ (c .before .before .check-totals .ensures) (c .enum-told16 .given .1))), λ e. never _ _ _ e)
 
-same-length-4 : tie.Need-same-length-4
-same-length-4 c = search needs
+same-length-3 : tie.Need-same-length-3
+same-length-3 c = search needs
 
 returns-10 : tie.Need-returns-10
 returns-10 c = (
@@ -273,14 +263,13 @@ check-record-with-spec =
     enum-told-7
     enum-told-8
     returns-4
-    check-cells-requires
-    enum-told-9
-    enum-told-10
-    returns-5
     element-copy-out-check-plain
     element-copy-out-check-plain-2
     check-plain-requires
-    same-length
+    returns-5
+    check-cells-requires
+    enum-told-9
+    enum-told-10
     returns-6
     check-outlets-requires
     enum-told-11
@@ -291,12 +280,12 @@ check-record-with-spec =
     check-carried-requires
     enum-told-13
     enum-told-14
-    same-length-2
+    same-length
     returns-8
     check-totals-requires
     enum-told-15
     enum-told-16
-    same-length-3
+    same-length-2
     returns-9
-    same-length-4
+    same-length-3
     returns-10)

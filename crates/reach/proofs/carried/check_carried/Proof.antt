@@ -1,19 +1,40 @@
 -- `reach::carried::check_carried` meets its contract: ground 8 says the same of what was drawn and of its sums by cell. Assumes nothing.
-use mathlib.Core.Path.{_≡_, ap, _∙_}
+use mathlib.Core.Path.{_≡_, ap, sym, _∙_}
 use mathlib.Core.List.{List}
 use Prim.Native.Nat.{ℕ}
 use native.Mathlib.Omega.{arith}
+use denote.Ref.{now}
 use lib.ListN.{length}
 use Rattle.numbers.specs.Index.{tabulate}
-use Rattle.numbers.proofs.IndexLaws.{length-tabulate}
-use Rattle.outlet.specs.declared.Outlets.{Outlets}
-use Rattle.reach.specs.Grounds.{passOr}
-use Rattle.reach.specs.Ranges.{cutDrawn}
+use Rattle.numbers.proofs.IndexLaws.{length-tabulate, on, off}
+use Rattle.reach.specs.Grounds.{carriedFit}
+use Rattle.reach.specs.Parts.{drawnFrom}
+use Rattle.reach.specs.Ranges.{alone, cutDrawn}
 use Rattle.reach.proofs.Sound.{outlets-few, outlet-sound}
+use Rattle.reach.proofs.GroundsLaws.{passes, refuses, passed, refused-by}
 use Rattle.reach.proofs.OutletLaws.{cut-most, at-cell, same-ground}
 use borrow.Author.Needs.{needs}
+use borrow.Author.Tests.{not-true, not-false}
 use Rattle.reach.proofs.carried.check_carried.Statement.{statement}
 use Rattle.reach.proofs.carried.check_carried.Tie as tie
+
+abbrev start : tie.After-drawn-by-cell → tie.Start
+start c = c .before .before .before .before .before
+
+-- the column as it is left
+abbrev column : tie.After-drawn-by-cell → List ℕ
+column c = c .drawn-by-cell .last .1 .0
+
+summed : (c : tie.After-drawn-by-cell) → column c ≡ tabulate 512 (cutDrawn (start c .args .outlets))
+summed c = let s = start c in c .drawn-by-cell .ensures ∙ ap (λ (m : ℕ). tabulate m (cutDrawn (s .args .outlets))) (s .pre .1 .1 .long)
+
+ground-is : (c : tie.After-drawn-by-cell) →
+    (let a = start c .args in
+    carriedFit (now (a .depth)) (now (a .base)) (now (a .carried)) (alone (column c)) (a .left-kind) (a .right-kind) ≡ carriedFit (now (a .depth)) (now (a .base)) (now (a .carried)) (drawnFrom (a .outlets)) (a .left-kind) (a .right-kind))
+ground-is c = let s = start c in same-ground _ _ _ (s .args .outlets) _ _ _ (s .pre .0) (s .pre .1 .0) (summed c)
+
+abbrev added : tie.After-check-carried-cells → tie.After-drawn-by-cell
+added c = c .before .before .before .before
 
 drawn-by-cell-requires : tie.Need-drawn-by-cell-requires
 drawn-by-cell-requires c κs =
@@ -22,14 +43,10 @@ drawn-by-cell-requires c κs =
     let z = s .pre .1 .1 in
     (outlets-few _ _ f, ((λ k l. omega (arith, outlet-sound _ _ f k l .cell, s .pre .0 .few, z .long)), z .zeros))
 
--- the column as it is left
-resized : (os : Outlets) (d : List ℕ) (n : ℕ) → n ≡ 512 → d ≡ tabulate n (cutDrawn os) → d ≡ tabulate 512 (cutDrawn os)
-resized os d n l e = e ∙ ap (λ (m : ℕ). tabulate m (cutDrawn os)) l
-
-check-carried-with-requires : tie.Need-check-carried-with-requires
-check-carried-with-requires c κs =
-    let s = c .before .before .before .before .before .before .before .before in
-    let d = resized (s .args .outlets) _ _ (s .pre .1 .1 .long) (c .before .before .before .drawn-by-cell .ensures) in
+check-carried-cells-requires : tie.Need-check-carried-cells-requires
+check-carried-cells-requires c κs =
+    let s = start (c .before .before .before) in
+    let d = summed (c .before .before .before) in
     let k = s .pre .0 in
     record {
       columns = k;
@@ -37,14 +54,56 @@ check-carried-with-requires c κs =
       drawn-most = λ i l. rw (at-cell (s .args .outlets) _ d i (omega (arith, l, k .few))) (cut-most (s .args .outlets) (outlets-few _ _ (s .pre .1 .0)) i);
     }
 
+enum-told : tie.Need-enum-told
+enum-told c = search needs
+
+enum-told-2 : tie.Need-enum-told-2
+enum-told-2 c = search needs
+
 same-length : tie.Need-same-length
 same-length c = search needs
 
 returns : tie.Need-returns
+unfolding carriedFit
 returns c =
-    let s = c .before .before .before .before .before .before .before .before .before in
-    let d = resized (s .args .outlets) _ _ (s .pre .1 .1 .long) (c .before .before .before .before .drawn-by-cell .ensures) in
-    (c .check-carried-with .ensures ∙ ap (passOr 8) (same-ground _ _ _ (s .args .outlets) _ _ _ (s .pre .0) (s .pre .1 .0) d), d)
+    let k = c .before .before in
+    (refuses 8 (sym (ground-is (added k)) ∙ off _ _ (refused-by 8 _ _ _ (k .check-carried-cells .ensures) (c .enum-told2 .given .1))), summed (added k))
+
+walls-fit-requires : tie.Need-walls-fit-requires
+walls-fit-requires c κs = search needs
+
+same-length-2 : tie.Need-same-length-2
+same-length-2 c = search needs
+
+returns-2 : tie.Need-returns-2
+unfolding carriedFit
+returns-2 c =
+    let w = c .before in
+    let k = w .before .before .before in
+    (refuses 8 (sym (ground-is (added k)) ∙ on _ _ (passed 8 _ _ (k .check-carried-cells .ensures) (w .before .enum-told .given .1)) (sym (w .walls-fit .ensures) ∙ not-true _ (c .if1 .taken))), summed (added k))
+
+same-length-3 : tie.Need-same-length-3
+same-length-3 c = search needs
+
+returns-3 : tie.Need-returns-3
+unfolding carriedFit
+returns-3 c =
+    let w = c .before in
+    let k = w .before .before .before in
+    (passes 8 (sym (ground-is (added k)) ∙ on _ _ (passed 8 _ _ (k .check-carried-cells .ensures) (w .before .enum-told .given .1)) (sym (w .walls-fit .ensures) ∙ not-false _ (c .if1 .left))), summed (added k))
 
 pub check-carried-spec : {M : Type 1} → statement M
-check-carried-spec = tie.close (tie.spec drawn-by-cell-requires check-carried-with-requires same-length returns)
+check-carried-spec =
+    tie.close
+    (tie.spec
+    drawn-by-cell-requires
+    check-carried-cells-requires
+    enum-told
+    enum-told-2
+    same-length
+    returns
+    walls-fit-requires
+    same-length-2
+    returns-2
+    same-length-3
+    returns-3)

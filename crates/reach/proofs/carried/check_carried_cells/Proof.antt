@@ -1,11 +1,10 @@
 -- `reach::carried::check_carried_cells` meets its contract. The loop: the cells passed keep the rules, and what the last of them has at its right is in
 -- range. Assumes nothing.
 use mathlib.Core.Path.{_≡_, sym, _∙_}
-use mathlib.Core.Bool.{Bool, true}
-use mathlib.Core.List.{List}
-use Prim.Native.Nat.{ℕ, _+_, _-_, _≤_, _<_}
+use mathlib.Core.Bool.{true}
+use Prim.Native.Nat.{_+_, _-_, _≤_, _<_}
 use native.Mathlib.Omega.{arith}
-use lib.IntN.{ℤ, pos, natAbs}
+use lib.IntN.{pos, natAbs}
 use lib.Dec.{leb}
 use lib.ListN.{length, getD}
 use denote.Ref.{now}
@@ -20,14 +19,12 @@ use Rattle.reach.specs.Ranges.{alone}
 use Rattle.reach.specs.Limits.{carriedMost}
 use Rattle.reach.proofs.GroundsLaws.{passes, refuses}
 use Rattle.reach.proofs.Sound.{carried-sound}
+use Rattle.reach.proofs.CarriedLaws.{carriedAt}
 use Rattle.reach.proofs.carried.check_carried_cells.Statement.{statement}
 use Rattle.reach.proofs.carried.check_carried_cells.Tie as tie
 
-abbrev carriedAt : List ℕ → List ℕ → List ℤ → List ℕ → ℕ → Bool
-carriedAt h b c d i = carriedFits (getD h i 0) (getD b i 0) (getD c i (pos 0)) (getD c (i + 1) (pos 0)) (alone d i)
-
 abbrev Inv-loop : tie.InvT-loop
-Inv-loop h b c d n i₀ i = (i ≤ n) × (allBelow i (carriedAt h b c d) ≡ true) × (natAbs (getD c i (pos 0)) ≤ carriedMost)
+Inv-loop h b c d n i₀ i = (i ≤ n) × (allBelow i (carriedAt h b c (alone d)) ≡ true) × (natAbs (getD c i (pos 0)) ≤ carriedMost)
 
 abbrev μ-loop : tie.MeasureT-loop
 μ-loop h b c d n i₀ i = n - i
@@ -43,7 +40,7 @@ first-fits : (c : tie.After-within Inv-loop μ-loop) → c .within .result ≡ l
 first-fits c = rw (toZ-ofZ (sfits-of (c .before .within-arg .given))) at (c .within .ensures)
 
 cell-is : (c : tie.After-carried-fits Inv-loop μ-loop) → (let s = entry (turn c) .args in
-    c .carried-fits .result ≡ carriedAt (now (s .depth)) (now (s .base)) (now (s .carried)) (now (s .drawn)) (turn c .loop .i))
+    c .carried-fits .result ≡ carriedAt (now (s .depth)) (now (s .base)) (now (s .carried)) (alone (now (s .drawn))) (turn c .loop .i))
 cell-is c =
     let s = entry (turn c) .args in
     let i = turn c .loop .i in

@@ -1,10 +1,9 @@
 -- `reach::cells::check_cells` meets its contract. The loop: the cells passed fit. Assumes nothing.
 use mathlib.Core.Path.{_≡_, sym, _∙_}
-use mathlib.Core.Bool.{Bool, true}
-use mathlib.Core.List.{List}
-use Prim.Native.Nat.{ℕ, _-_, _≤_}
+use mathlib.Core.Bool.{true}
+use Prim.Native.Nat.{_-_, _≤_}
 use native.Mathlib.Omega.{arith}
-use lib.IntN.{ℤ, pos}
+use lib.IntN.{pos}
 use lib.ListN.{length, getD}
 use denote.Ref.{now}
 use mir.Syntax.{w64}
@@ -13,13 +12,11 @@ use borrow.Author.Needs.{needs, sfits-of}
 use borrow.Author.Tests.{not-true, not-false}
 use Rattle.numbers.specs.Index.{allBelow}
 use Rattle.numbers.proofs.IndexLaws.{all-none, all-more, all-fails}
-use Rattle.reach.specs.Grounds.{cellFits, cellsFit}
+use Rattle.reach.specs.Grounds.{cellsFit}
 use Rattle.reach.proofs.GroundsLaws.{passes, refuses}
+use Rattle.reach.proofs.Sound.{cellAt}
 use Rattle.reach.proofs.cells.check_cells.Statement.{statement}
 use Rattle.reach.proofs.cells.check_cells.Tie as tie
-
-abbrev cellAt : List ℤ → List ℕ → List ℤ → List ℕ → List ℕ → ℕ → Bool
-cellAt z h q m b i = cellFits (getD z i (pos 0)) (getD h i 0) (getD q i (pos 0)) (getD m i 0) (getD b i 0)
 
 abbrev Inv-loop : tie.InvT-loop
 Inv-loop z h q m b n i₀ i = (i ≤ n) × (allBelow i (cellAt z h q m b) ≡ true)
