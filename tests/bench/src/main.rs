@@ -21,6 +21,8 @@ use std::collections::BTreeMap;
 use table::{print_ratio, round, Table};
 
 const INPUTS: usize = 200_000;
+/// Cells of all records of a line together, whatever their length: a processor learns what it meets again soon, and caches keep it.
+const CELLS: usize = 40 * 512;
 /// Strickler's coefficient of an earth canal with some weeds.
 const ROUGH: u64 = 35;
 
@@ -74,18 +76,46 @@ fn of_lengths(call: &str, kind: &str, mut line: impl FnMut(&str, usize) -> f64) 
     long
 }
 
-/// Records that carry water over most interfaces.
-fn carrying(r: &mut Random, cells: usize) -> Vec<Planned> {
-    let mut new = || Planned {
-        record: record_of(r, cells, [FED, OPEN], true),
-        t: 0,
-    };
-    (0..40).map(|_| new()).collect()
+/// As many calls as make up `CELLS`.
+fn calls_of(cells: usize, mut new: impl FnMut() -> Planned) -> Vec<Planned> {
+    (0..CELLS / cells).map(|_| new()).collect()
 }
 
+/// Any record that carries water over most interfaces, either way.
+fn carrying(r: &mut Random, cells: usize) -> Planned {
+    Planned {
+        record: record_of(r, cells, [FED, OPEN], true),
+        t: 0,
+    }
+}
+
+/// A flow that has carried water for a step or some.
+fn flowing(r: &mut Random, cells: usize) -> Planned {
+    let mut record = flow(r, cells, 1_000);
+    let mut steps = 1 + r.below(3);
+    while steps > 0 {
+        let t = both::greatest(&record) / 4;
+        let answer = reference_step(&mut record, t);
+        assert_eq!(answer.refusal, 0);
+        record.book = answer.book;
+        steps -= 1;
+    }
+    Planned { record, t: 0 }
+}
+
+/// The records that a call is measured on which takes no time step: of flows, and any.
+type Records = fn(&mut Random, usize) -> Planned;
+const RECORDS: [(&str, Records); 2] = [(", flow", flowing), (", any record", carrying)];
+
 fn compare_transport(table: &Table<3>, r: &mut Random) {
-    of_lengths("transport", "", |name, cells| {
-        let list = carrying(r, cells);
+    for (kind, record) in RECORDS {
+        compare_transport_of(table, kind, |cells| calls_of(cells, || record(r, cells)));
+    }
+}
+
+fn compare_transport_of(table: &Table<3>, kind: &str, mut list: impl FnMut(usize) -> Vec<Planned>) {
+    of_lengths("transport", kind, |name, cells| {
+        let list = list(cells);
         let rounds: [&dyn Fn() -> f64; 3] = [
             &|| round_on_copies(&list, |r, _| calls::transport(r)),
             &|| round_on_copies(&list, |r, _| reference_transport(r)),
@@ -95,10 +125,16 @@ fn compare_transport(table: &Table<3>, r: &mut Random) {
     });
 }
 
-/// The greatest step reads every cell and writes none, so that no copy is made.
 fn compare_greatest(table: &Table<3>, r: &mut Random) {
-    of_lengths("greatest step", "", |name, cells| {
-        let list = carrying(r, cells);
+    for (kind, record) in RECORDS {
+        compare_greatest_of(table, kind, |cells| calls_of(cells, || record(r, cells)));
+    }
+}
+
+/// The greatest step reads every cell and writes none, so that no copy is made.
+fn compare_greatest_of(table: &Table<3>, kind: &str, mut list: impl FnMut(usize) -> Vec<Planned>) {
+    of_lengths("greatest step", kind, |name, cells| {
+        let list = list(cells);
         let rounds: [&dyn Fn() -> f64; 3] = [
             &|| round(&list, |p| calls::greatest_step(&p.record)),
             &|| round(&list, |p| reference_greatest(&p.record)),
@@ -111,7 +147,7 @@ fn compare_greatest(table: &Table<3>, r: &mut Random) {
 /// Accepted greatest steps with a transport first, or that keep their sums, each out of a flow of its own some steps old.
 fn planned(r: &mut Random, cells: usize, slope: i64, transported: bool) -> Vec<Planned> {
     let mut list = Vec::new();
-    while list.len() < 40 {
+    while list.len() < CELLS / cells {
         let mut now = flow(r, cells, slope);
         let mut age = r.below(30);
         loop {
@@ -131,14 +167,13 @@ fn planned(r: &mut Random, cells: usize, slope: i64, transported: bool) -> Vec<P
 }
 
 /// The greatest step of each record, before any other.
-fn first_steps(mut record: impl FnMut() -> Record) -> Vec<Planned> {
-    let mut new = || {
+fn first_steps(cells: usize, mut record: impl FnMut() -> Record) -> Vec<Planned> {
+    calls_of(cells, || {
         let record = record();
         let t = both::greatest(&record);
         assert_eq!(reference_step(&mut record.clone(), t).refusal, 0);
         Planned { record, t }
-    };
-    (0..40).map(|_| new()).collect()
+    })
 }
 
 /// A step, ours against those written for speed, of 512 and of 64 cells. Gives ours of 512.
@@ -187,7 +222,7 @@ fn compare_steps(table: &Table<3>, r: &mut Random) {
         ("half dry", half_dry, None),
     ];
     for (kind, record, to_c) in first {
-        let list = |cells| first_steps(|| record(r, cells));
+        let list = |cells| first_steps(cells, || record(r, cells));
         ours.insert(kind, compare_step(table, kind, 0, to_c, list));
     }
     let times = [ours["85 % dry"], ours["sloping bed"]];
@@ -221,7 +256,7 @@ fn kept_step(record: &mut Record, t: u64, strickler: u64) {
 
 /// A step of 512 cells with outlets, against the same without: none, 32 along the reach, 32 at one cell that fit, and that have to share.
 fn compare_outlets(r: &mut Random) {
-    let plain = first_steps(|| flow(r, 512, 1_000));
+    let plain = first_steps(512, || flow(r, 512, 1_000));
     let list = |place: fn(u64) -> u64, want: u64| -> Vec<Outlet> {
         let outlets = (0..MOST_OUTLETS as u64).map(|k| Outlet::new(place(k), want));
         outlets.collect()
@@ -243,7 +278,7 @@ fn compare_outlets(r: &mut Random) {
 fn compare_friction(r: &mut Random) {
     let table = Table::of_two("a proved call", ["friction", "without"]);
     for (kind, slope) in [("sloping bed", 1_000), ("flat bed", 0)] {
-        let list = first_steps(|| flow(r, 512, slope));
+        let list = first_steps(512, || flow(r, 512, slope));
         let step = |strickler| round_on_copies(&list, |r, t| kept_step(r, t, strickler));
         let name = format!("step of 512 cells, friction, {kind}");
         table.line(&name, [&|| step(ROUGH), &|| step(0)], &[1.2]);
