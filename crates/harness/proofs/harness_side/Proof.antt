@@ -17,13 +17,13 @@ wave-speed-requires : tie.Need-wave-speed-requires
 wave-speed-requires c κs = (c .before .before .pre .1 .0, c .before .root-table .ensures)
 
 mul-divisor-of : tie.Need-mul-divisor-of
-mul-divisor-of c = let m = c .before .before .pre .0 in omega (arith, m .most)
+mul-divisor-of c = let m = c .before .before .before .pre .0 in omega (arith, m .most)
 
 divisor-of-requires : tie.Need-divisor-of-requires
-divisor-of-requires c κs = let m = c .before .before .pre .0 in omega (arith, m .least)
+divisor-of-requires c κs = let m = c .before .before .before .pre .0 in omega (arith, m .least)
 
 -- 1,000·X as it is divided by
-span-of : (c : tie.After-divisor-of) → SpanOf (c .before .before .before .args .x) (c .divisor-of .result)
+span-of : (c : tie.After-divisor-of) → SpanOf (c .before .before .before .before .args .x) (c .divisor-of .result)
 span-of c = record { value-is = c .divisor-of .ensures .0; fits = c .divisor-of .ensures .1 }
 
 right-part-requires : tie.Need-right-part-requires
@@ -54,7 +54,7 @@ fluxes-of-requires c κs =
 still-thrust-requires : tie.Need-still-thrust-requires
 still-thrust-requires c κs =
     let k = c .before .before .before in
-    let s = k .before .before .before in (
+    let s = k .before .before .before .before in (
       s .pre .0,
       (
         span-of k,
