@@ -1,4 +1,4 @@
-// A record with no outlet: grounds 7 to 9. Ground 16 stands, nothing is drawn, and its list is not copied.
+// A record with no outlet: grounds 7 to 9. Ground 16 stands, nothing is drawn, and the list of outlets is not copied.
 ghost use mathlib.Core.Path.{_≡_};
 ghost use mathlib.Core.List.{[], _∷_};
 ghost use lib.ListN.{length};
