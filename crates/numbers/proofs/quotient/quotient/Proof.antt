@@ -40,7 +40,7 @@ returns-2 : tie.Need-returns-2
 returns-2 c =
     let k = c .before .before .before in
     let s = k .before .args in
-    none-more (s .n) (s .d .value) (k .upper-half .result) (k .before .pre .some) (short k) (omega (arith, c .if1 .left))
+    none-more (s .n) (s .d .value) (k .upper-half .result) (k .before .pre .some) (short k) (c .if1 .left)
 
 pub quotient-spec : {M : Type 1} → statement M
 quotient-spec = tie.close (tie.spec upper-half-requires mul-if1 sub-if1 add-result returns returns-2)
