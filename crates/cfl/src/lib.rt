@@ -30,7 +30,7 @@ pub struct Fastest {
 }
 
 // Among all cells and both boundaries, whose speeds are given. From the right to the left, so that a cell is taken only where it is faster than all
-// that are passed: a root is drawn for those alone, in level water for one.
+// that are passed: a root is taken for those alone, in level water for one.
 pub fn fastest_of(depth: &[u64], discharge: &[i64], left: u64, right: u64) -> Fastest
     requires { ⌜ FlowColumns (now depth) (now discharge) × ((left ≤ 16_000) × (right ≤ 16_000)) ⌝ }
     ensures { λ r. ⌜ (r .place ≡ fastestPlace (speedAt (now (depth .entry)) (now (discharge .entry)) left right) (length (now (depth .entry)) + 1)) × (r .speed ≡ speedAt (now (depth .entry)) (now (discharge .entry)) left right (r .place)) ⌝ }

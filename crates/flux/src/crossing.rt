@@ -2,10 +2,11 @@
 ghost use mathlib.Core.Path.{_≡_};
 ghost use Prim.Native.Nat.{_*_, _≤_};
 ghost use lib.IntN.{subℕ};
-ghost use Rattle.flux.specs.Limits.{depthMost, velocityMost};
+ghost use Rattle.flux.specs.Limits.{depthMost, velocityMost, cellLengthLeast, cellLengthMost};
 ghost use Rattle.flux.specs.Crossing.{upper, lower, waterOf, secondMoment, momentumOf, waterFlux, momentumFlux, stillThrust};
 ghost use Rattle.flux.specs.Ranges.{Mesh, SpanOf, Flow, Spectrum, momentMost, waveMost};
 use numbers::quotient::Divisor;
+use numbers::quotient::divisor_of;
 use numbers::quotient::quotient;
 use numbers::signed::joined;
 use numbers::signed::right_part;
@@ -29,6 +30,14 @@ pub fn rightgoing_of(a: u64, right: u64, left: u64) -> Rightgoing
     }
 }
 
+// 1,000·X as a divisor, once for many fluxes
+pub fn span_of(x: u64) -> Divisor
+    requires { ⌜ (cellLengthLeast ≤ x) × (x ≤ cellLengthMost) ⌝ }
+    ensures { λ r. ⌜ SpanOf x r ⌝ }
+{
+    divisor_of(1_000 * x)
+}
+
 // W of a wet depth
 fn water_of(t: u64, x: u64, h: u64, a: u64, upper: u64, lower: u64) -> u64
     requires { ⌜ Mesh t x × ((h ≤ depthMost) × Spectrum a upper lower) ⌝ }
@@ -45,7 +54,7 @@ fn second_moment(a: u64, upper: u64, lower: u64) -> u64
     (upper * upper * upper - lower * lower * lower) / (6 * a)
 }
 
-// Q of a given K
+// Q of a given K. What is divided by is `span`; x is named for the promise alone.
 fn momentum_of(t: u64, x: u64, span: Divisor, h: u64, k: u64) -> u64
     requires { ⌜ Mesh t x × (SpanOf x span × ((h ≤ depthMost) × (k ≤ momentMost))) ⌝ }
     ensures { λ r. ⌜ r ≡ momentumOf t x h k ⌝ }

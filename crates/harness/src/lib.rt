@@ -18,11 +18,11 @@ use driver::Replayed;
 use driver::replay;
 use flux::crossing::fluxes_of;
 use flux::crossing::rightgoing_of;
+use flux::crossing::span_of;
 use flux::crossing::still_thrust;
 use flux::interface::reduced_depth;
 use flux::velocity::velocity_parts;
 use flux::wave::wave_speed;
-use numbers::quotient::divisor_of;
 use numbers::root::root_table;
 use numbers::signed::joined;
 use numbers::signed::left_part;
@@ -54,7 +54,7 @@ pub extern "C" fn harness_side(t: u64, x: u64, h: u64, u: i64) -> Side
 {
     let roots = root_table();
     let a = wave_speed(h, &roots);
-    let span = divisor_of(1_000 * x);
+    let span = span_of(x);
     let c = fluxes_of(t, x, span, h, a, right_part(u), left_part(u));
     Side {
         water: c.water,

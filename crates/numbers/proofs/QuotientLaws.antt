@@ -1,4 +1,4 @@
--- Laws of a quotient by a reciprocal, over any base P and any scale S: `omega` does not read numbers of 39 digits. Assumes nothing.
+-- Laws of a quotient by a reciprocal, over any base P and any scale T + 1, since `omega` stops at 38 digits. Assumes nothing.
 use mathlib.Core.Path.{_≡_, sym, ap, ap₂, _∙_}
 use Prim.Native.Nat.{ℕ, _+_, _-_, _*_, _/_, _%_, _≤_, _<_}
 use native.Mathlib.Nat.{le-antisymm, le-div-iff-mul-le, div-mul-le-self, mul-le-mul-left, mul-le-mul-right, le-of-mul-le-mul-left, lt-of-not-le, lt-div-mul-add, mod-lt, div-add-mod'}

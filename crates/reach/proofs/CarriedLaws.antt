@@ -108,8 +108,8 @@ module _ (h b : ℕ) (l r : ℤ) (d : ℕ) (left : natAbs l ≤ carriedMost) whe
 -- ---- cell by cell
 
 -- of cell i
-abbrev pub carriedAt : (h b : List ℕ) (c : List ℤ) (drawn : ℕ → List ℕ) → ℕ → Bool
-carriedAt h b c drawn i = carriedFits (getD h i 0) (getD b i 0) (getD c i (pos 0)) (getD c (i + 1) (pos 0)) (drawn i)
+abbrev pub carriedFitsAt : (h b : List ℕ) (c : List ℤ) (drawn : ℕ → List ℕ) → ℕ → Bool
+carriedFitsAt h b c drawn i = carriedFits (getD h i 0) (getD b i 0) (getD c i (pos 0)) (getD c (i + 1) (pos 0)) (drawn i)
 
 -- no outlet says the same as one that has drawn nothing
 pub none-drawn : (h b : ℕ) (l r : ℤ) → carriedFits h b l r (0 ∷ []) ≡ carriedFits h b l r []

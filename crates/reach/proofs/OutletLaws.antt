@@ -22,7 +22,7 @@ use Rattle.reach.specs.declared.held.Held.{Held}
 use Rattle.reach.specs.Parts.{drawnFrom}
 use Rattle.reach.specs.Grounds.{carriedFits, carriedCellsFit, carriedFit, outletFits, outletsFit, ledgerFits, allTotalsFit}
 use Rattle.reach.specs.Ranges.{CarriedColumns, Clear, alone, undrawn, cutDrawn}
-use Rattle.reach.proofs.CarriedLaws.{carriedAt}
+use Rattle.reach.proofs.CarriedLaws.{carriedFitsAt}
 use Rattle.reach.proofs.PartsLaws.{outflow-is, sum-single}
 use Rattle.reach.proofs.Sound.{CarriedSound, carried-sound, carried-stands, outlets-few}
 
@@ -89,7 +89,7 @@ pub same-ground : (h b : List ℕ) (c : List ℤ) (os : Outlets) (d : List ℕ) 
     → carriedFit h b c (alone d) left right ≡ carriedFit h b c (drawnFrom os) left right
 unfolding carriedFit carriedCellsFit
 same-ground h b c os d left right k f e =
-    rw (all-same (carriedAt h b c (alone d)) (carriedAt h b c (drawnFrom os)) (length h) (λ i l.
+    rw (all-same (carriedFitsAt h b c (alone d)) (carriedFitsAt h b c (drawnFrom os)) (length h) (λ i l.
     rw (at-cell os d e i (omega (arith, l, k .few)))
     (carried-cut os (outlets-few (length h) os f) (getD h i 0) (getD b i 0) (getD c i (pos 0)) (getD c (i + 1) (pos 0)) i (k .base i l)))) refl
 

@@ -122,8 +122,8 @@ module _ (z : ℤ) (h : ℕ) (q : ℤ) (m b : ℕ) where
       (on _ _ (le-leb _ _ (s .base)) (only _ ∙ le-leb _ _ (s .mass)))))
 
 -- of cell i
-abbrev pub cellAt : List ℤ → List ℕ → List ℤ → List ℕ → List ℕ → ℕ → Bool
-cellAt z h q m b i = cellFits (getD z i (pos 0)) (getD h i 0) (getD q i (pos 0)) (getD m i 0) (getD b i 0)
+abbrev pub cellFitsAt : List ℤ → List ℕ → List ℤ → List ℕ → List ℕ → ℕ → Bool
+cellFitsAt z h q m b i = cellFits (getD z i (pos 0)) (getD h i 0) (getD q i (pos 0)) (getD m i 0) (getD b i 0)
 
 pub cells-sound : (z : List ℤ) (h : List ℕ) (q : List ℤ) (m b : List ℕ) → cellsFit z h q m b ≡ true → (i : ℕ) → i < length z → CellSound (getD z i (pos 0)) (getD h i 0) (getD q i (pos 0)) (getD m i 0) (getD b i 0)
 unfolding cellsFit

@@ -17,9 +17,9 @@ ghost use Rattle.flux.specs.Velocity.{velocity};
 ghost use Rattle.reach.specs.declared.boundary.BoundaryPlace.the-variants.{Right};
 ghost use Rattle.water.specs.Sides.{boundarySide};
 ghost use Rattle.water.specs.Water.{nearest};
+use flux::crossing::span_of;
 use friction::conveyance_squared;
 use friction::table::four_thirds;
-use numbers::quotient::divisor_of;
 use numbers::root::root_table;
 use numbers::signed::excess;
 use numbers::signed::joined;
@@ -148,8 +148,7 @@ fn both_dry(l: SideState, r: SideState) -> bool
     l.depth + r.depth == 0
 }
 
-// Whether a cell stays dry, where it is dry and so is the side at its left: the side at its right is too, so that nothing crosses there. Most cells of a dry reach
-// are such, and cost nothing more.
+// Whether the side at a cell's right is dry too, where `dry` says that the cell and the side at its left are: nothing crosses there then, and the cell stays as it is.
 fn stays_dry(dry: bool, next: SideState) -> bool
     ensures { λ r. ⌜ r ≡ (dry && eqb (next .depth) 0) ⌝ }
 {
@@ -196,7 +195,7 @@ pub fn sweep(
     let mut cell = cell_state(bed[0], depth[0], discharge[0], &roots);
     let beyond = boundary_state(BoundaryPlace::Left, boundaries[0], cell, &roots);
     let mut met = still_meets(still_meets(true, t, x, beyond), t, x, cell);
-    let span = divisor_of(1_000 * x);
+    let span = span_of(x);
     let mut left = exchange_level(t, x, span, beyond, cell);
     net[0] = net_of(left);
     let powers = four_thirds();

@@ -93,7 +93,6 @@ pub struct Exchange {
     pub lost_right: u64,
 }
 
-// `span` is 1,000·x.
 pub fn exchange_between(
     t: u64,
     x: u64,

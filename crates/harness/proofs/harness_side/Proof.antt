@@ -5,7 +5,6 @@ use native.Mathlib.Omega.{arith}
 use mir.Facts.{toZ-ofZ}
 use Rattle.numbers.proofs.SignedLaws.{two-parts, abs-parts}
 use Rattle.flux.specs.Crossing.{waterFlux, momentumFlux}
-use Rattle.flux.specs.Ranges.{SpanOf}
 use borrow.Author.Needs.{needs}
 use Rattle.harness.proofs.harness_side.Statement.{statement}
 use Rattle.harness.proofs.harness_side.Tie as tie
@@ -16,15 +15,8 @@ root-table-requires c κs = search needs
 wave-speed-requires : tie.Need-wave-speed-requires
 wave-speed-requires c κs = (c .before .before .pre .1 .0, c .before .root-table .ensures)
 
-mul-divisor-of : tie.Need-mul-divisor-of
-mul-divisor-of c = let m = c .before .before .before .pre .0 in omega (arith, m .most)
-
-divisor-of-requires : tie.Need-divisor-of-requires
-divisor-of-requires c κs = let m = c .before .before .before .pre .0 in omega (arith, m .least)
-
--- 1,000·X as it is divided by
-span-of : (c : tie.After-divisor-of) → SpanOf (c .before .before .before .before .args .x) (c .divisor-of .result)
-span-of c = record { value-is = c .divisor-of .ensures .0; fits = c .divisor-of .ensures .1 }
+span-of-requires : tie.Need-span-of-requires
+span-of-requires c κs = let m = c .before .before .before .pre .0 in (m .least, m .most)
 
 right-part-requires : tie.Need-right-part-requires
 right-part-requires c κs = search needs
@@ -41,7 +33,7 @@ fluxes-of-requires c κs =
     let l = rw (toZ-ofZ f) at (c .left-part .ensures) in (
       s .pre .0,
       (
-        span-of (c .before .before),
+        c .before .before .span-of .ensures,
         record {
           depth = s .pre .1 .0;
           wave = c .before .before .before .wave-speed .ensures;
@@ -57,7 +49,7 @@ still-thrust-requires c κs =
     let s = k .before .before .before .before in (
       s .pre .0,
       (
-        span-of k,
+        k .span-of .ensures,
         record { depth = s .pre .1 .0; wave = k .before .wave-speed .ensures; right-most = omega arith; left-most = omega arith },
       ),
     )
@@ -81,8 +73,7 @@ harness-side-spec =
     (tie.spec
     root-table-requires
     wave-speed-requires
-    mul-divisor-of
-    divisor-of-requires
+    span-of-requires
     right-part-requires
     left-part-requires
     fluxes-of-requires

@@ -18,7 +18,6 @@ use Rattle.numbers.specs.Index.{allBelow}
 use Rattle.numbers.specs.Signed.{positive}
 use Rattle.numbers.proofs.IndexLaws.{and-left, and-right, Written, written-none, written-first, written-more}
 use Rattle.flux.specs.Interface.{Side}
-use Rattle.flux.specs.Ranges.{SpanOf}
 use Rattle.reach.specs.Reach.{Reach, cells}
 use Rattle.reach.specs.declared.boundary.BoundaryPlace.the-variants.{Left}
 use Rattle.reach.specs.Grounds.{passOr}
@@ -72,10 +71,6 @@ cell-at c = turn (gives (left-with (c .before .before)))
 
 abbrev flow : tie.Start Inv-loop μ-loop → Reach
 flow s = flowOf (now (s .args .bed)) (now (s .args .depth)) (now (s .args .discharge)) (s .args .x) (s .args .t7)
-
--- 1,000·X as it is divided by
-span-of : (c : tie.After-divisor-of Inv-loop μ-loop) → SpanOf (c .before .before .before .before .before .before .before .before .before .before .before .before .before .before .before .args .x) (c .divisor-of .result)
-span-of c = record { value-is = c .divisor-of .ensures .0; fits = c .divisor-of .ensures .1 }
 
 -- the first cell and the left boundary beside it
 first : (c : tie.After-cell-state Inv-loop μ-loop) → SideStateFits (c .cell-state .result) × (sideOf (c .cell-state .result) ≡ cellSide (flow (c .before .before .before .before .before .before .before .before .before)) 0)
@@ -151,17 +146,14 @@ still-meets-requires c κs = (c .before .before .before .before .before .before 
 still-meets-requires-2 : tie.Need-still-meets-requires-2 Inv-loop μ-loop
 still-meets-requires-2 c κs = (c .before .before .before .before .before .before .before .before .before .before .before .before .before .pre .0 .0, first (c .before .before .before .before) .0)
 
-mul-divisor-of : tie.Need-mul-divisor-of Inv-loop μ-loop
-mul-divisor-of c = let m = c .before .before .before .before .before .before .before .before .before .before .before .before .before .before .pre .0 .0 in omega (arith, m .most)
-
-divisor-of-requires : tie.Need-divisor-of-requires Inv-loop μ-loop
-divisor-of-requires c κs = let m = c .before .before .before .before .before .before .before .before .before .before .before .before .before .before .pre .0 .0 in omega (arith, m .least)
+span-of-requires : tie.Need-span-of-requires Inv-loop μ-loop
+span-of-requires c κs = let m = c .before .before .before .before .before .before .before .before .before .before .before .before .before .before .pre .0 .0 in (m .least, m .most)
 
 exchange-level-requires : tie.Need-exchange-level-requires Inv-loop μ-loop
 exchange-level-requires c κs =
     let b = c .before .before .before .boundary-state .ensures in (
       (c .before .before .before .before .before .before .before .before .before .before .before .before .before .before .before .pre .0 .0, (beyond (c .before .before .before) .0, first (c .before .before .before .before .before .before) .0)),
-      (span-of c, ap (λ (d : Side). d .bed) (b .1) ∙ boundary-bed Left _ (sideOf (c .before .before .before .before .before .before .cell-state .result))),
+      (c .span-of .ensures, ap (λ (d : Side). d .bed) (b .1) ∙ boundary-bed Left _ (sideOf (c .before .before .before .before .before .before .cell-state .result))),
     )
 
 net-of-requires : tie.Need-net-of-requires Inv-loop μ-loop
@@ -312,7 +304,7 @@ exchange-between-requires c κs =
     let r = c .before .before .before .before in
     let k = r .before .before .before in
     let o = k .before .before .before in
-    ((start k .pre .0 .0, (k .before .loop .inv .4, next r .0)), (span-of (o .before .before), table o .root-table .ensures))
+    ((start k .pre .0 .0, (k .before .loop .inv .4, next r .0)), (o .before .before .span-of .ensures, table o .root-table .ensures))
 
 mul-granted-of : tie.Need-mul-granted-of Inv-loop μ-loop
 mul-granted-of c = let l = index (turn c) in omega (arith, l .1)
@@ -518,8 +510,7 @@ sweep-spec =
     boundary-state-requires
     still-meets-requires
     still-meets-requires-2
-    mul-divisor-of
-    divisor-of-requires
+    span-of-requires
     exchange-level-requires
     net-of-requires
     slice-set-from-net

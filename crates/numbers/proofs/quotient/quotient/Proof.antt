@@ -1,5 +1,5 @@
 -- `numbers::quotient::quotient` meets its contract: `falls-short`. Assumes nothing.
-use Prim.Native.Nat.{ℕ, _+_, _*_, _≤_, _<_}
+use Prim.Native.Nat.{_+_, _*_, _≤_, _<_}
 use native.Mathlib.Omega.{arith}
 use mir.Facts.{fits-le}
 use borrow.Author.Needs.{needs}

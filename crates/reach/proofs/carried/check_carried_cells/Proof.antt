@@ -19,12 +19,12 @@ use Rattle.reach.specs.Ranges.{alone}
 use Rattle.reach.specs.Limits.{carriedMost}
 use Rattle.reach.proofs.GroundsLaws.{passes, refuses}
 use Rattle.reach.proofs.Sound.{carried-sound}
-use Rattle.reach.proofs.CarriedLaws.{carriedAt}
+use Rattle.reach.proofs.CarriedLaws.{carriedFitsAt}
 use Rattle.reach.proofs.carried.check_carried_cells.Statement.{statement}
 use Rattle.reach.proofs.carried.check_carried_cells.Tie as tie
 
 abbrev Inv-loop : tie.InvT-loop
-Inv-loop h b c d n i₀ i = (i ≤ n) × (allBelow i (carriedAt h b c (alone d)) ≡ true) × (natAbs (getD c i (pos 0)) ≤ carriedMost)
+Inv-loop h b c d n i₀ i = (i ≤ n) × (allBelow i (carriedFitsAt h b c (alone d)) ≡ true) × (natAbs (getD c i (pos 0)) ≤ carriedMost)
 
 abbrev μ-loop : tie.MeasureT-loop
 μ-loop h b c d n i₀ i = n - i
@@ -40,7 +40,7 @@ first-fits : (c : tie.After-within Inv-loop μ-loop) → c .within .result ≡ l
 first-fits c = rw (toZ-ofZ (sfits-of (c .before .within-arg .given))) at (c .within .ensures)
 
 cell-is : (c : tie.After-carried-fits Inv-loop μ-loop) → (let s = entry (turn c) .args in
-    c .carried-fits .result ≡ carriedAt (now (s .depth)) (now (s .base)) (now (s .carried)) (alone (now (s .drawn))) (turn c .loop .i))
+    c .carried-fits .result ≡ carriedFitsAt (now (s .depth)) (now (s .base)) (now (s .carried)) (alone (now (s .drawn))) (turn c .loop .i))
 cell-is c =
     let s = entry (turn c) .args in
     let i = turn c .loop .i in

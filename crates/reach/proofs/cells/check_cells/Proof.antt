@@ -14,18 +14,18 @@ use Rattle.numbers.specs.Index.{allBelow}
 use Rattle.numbers.proofs.IndexLaws.{all-none, all-more, all-fails}
 use Rattle.reach.specs.Grounds.{cellsFit}
 use Rattle.reach.proofs.GroundsLaws.{passes, refuses}
-use Rattle.reach.proofs.Sound.{cellAt}
+use Rattle.reach.proofs.Sound.{cellFitsAt}
 use Rattle.reach.proofs.cells.check_cells.Statement.{statement}
 use Rattle.reach.proofs.cells.check_cells.Tie as tie
 
 abbrev Inv-loop : tie.InvT-loop
-Inv-loop z h q m b n i₀ i = (i ≤ n) × (allBelow i (cellAt z h q m b) ≡ true)
+Inv-loop z h q m b n i₀ i = (i ≤ n) × (allBelow i (cellFitsAt z h q m b) ≡ true)
 
 abbrev μ-loop : tie.MeasureT-loop
 μ-loop z h q m b n i₀ i = n - i
 
 cell-is : (c : tie.After-cell-fits Inv-loop μ-loop) → (let s = c .before .before .before .before .before .before .before .before .before .before .before .args in
-    c .cell-fits .result ≡ cellAt (now (s .bed)) (now (s .depth)) (now (s .discharge)) (now (s .mass)) (now (s .base)) (c .before .before .before .before .before .before .before .loop .i))
+    c .cell-fits .result ≡ cellFitsAt (now (s .bed)) (now (s .depth)) (now (s .discharge)) (now (s .mass)) (now (s .base)) (c .before .before .before .before .before .before .before .loop .i))
 cell-is c =
     let s = c .before .before .before .before .before .before .before .before .before .before .before .args in
     let i = c .before .before .before .before .before .before .before .loop .i in

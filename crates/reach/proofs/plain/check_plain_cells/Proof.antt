@@ -20,16 +20,16 @@ use Rattle.reach.specs.Grounds.{cellsFit, carriedFits, carriedCellsFit}
 use Rattle.reach.specs.Limits.{carriedMost}
 use Rattle.reach.specs.Ranges.{undrawn}
 use Rattle.reach.proofs.GroundsLaws.{passes, go-on, stop-at, last-one}
-use Rattle.reach.proofs.CarriedLaws.{carriedAt, none-drawn, small-fits}
-use Rattle.reach.proofs.Sound.{cellAt, cell-sound, carried-sound}
+use Rattle.reach.proofs.CarriedLaws.{carriedFitsAt, none-drawn, small-fits}
+use Rattle.reach.proofs.Sound.{cellFitsAt, cell-sound, carried-sound}
 use Rattle.reach.proofs.plain.check_plain_cells.Statement.{statement}
 use Rattle.reach.proofs.plain.check_plain_cells.Tie as tie
 
 -- what `balanced` tells where i cells are passed: they keep the rules, and what the last of them has at its right is in range; or some cell does not keep them
 record Balanced (h b : List ℕ) (c : List ℤ) (i : ℕ) (t : Bool) : Type 0 where
-  kept : t ≡ true → allBelow i (carriedAt h b c undrawn) ≡ true
+  kept : t ≡ true → allBelow i (carriedFitsAt h b c undrawn) ≡ true
   right : t ≡ true → natAbs (getD c i (pos 0)) ≤ carriedMost
-  broken : t ≡ false → allBelow (length h) (carriedAt h b c undrawn) ≡ false
+  broken : t ≡ false → allBelow (length h) (carriedFitsAt h b c undrawn) ≡ false
 
 module _ (h b : List ℕ) (c : List ℤ) where
   balanced-none : {t : Bool} → 1 ≤ length h → t ≡ leb (natAbs (getD c 0 (pos 0))) carriedMost → Balanced h b c 0 t
@@ -40,7 +40,7 @@ module _ (h b : List ℕ) (c : List ℤ) where
     broken = λ p. all-fails _ (length h) 0 some (off _ _ (sym e ∙ p));
   }
 
-  balanced-more : (i : ℕ) {t : Bool} → i < length h → allBelow i (carriedAt h b c undrawn) ≡ true → t ≡ carriedAt h b c undrawn i → Balanced h b c (i + 1) t
+  balanced-more : (i : ℕ) {t : Bool} → i < length h → allBelow i (carriedFitsAt h b c undrawn) ≡ true → t ≡ carriedFitsAt h b c undrawn i → Balanced h b c (i + 1) t
   balanced-more i l before e = record {
     kept = λ p. all-more _ i before (sym e ∙ p);
     right = λ p. carried-sound _ _ _ _ _ (sym e ∙ p) .right;
@@ -57,7 +57,7 @@ module _ (h b : List ℕ) (c : List ℤ) where
 
 abbrev Inv-loop : tie.InvT-loop
 Inv-loop z h q m b c n left₀ balanced₀ i₀ left balanced i =
-    (i ≤ n) × (allBelow i (cellAt z h q m b) ≡ true) × (left ≡ ofZ w64 (getD c i (pos 0))) × Balanced h b c i balanced
+    (i ≤ n) × (allBelow i (cellFitsAt z h q m b) ≡ true) × (left ≡ ofZ w64 (getD c i (pos 0))) × Balanced h b c i balanced
 
 abbrev μ-loop : tie.MeasureT-loop
 μ-loop z h q m b c n left₀ balanced₀ i₀ left balanced i = n - i
@@ -73,7 +73,7 @@ first-fits : (c : tie.After-within Inv-loop μ-loop) → c .within .result ≡ l
 first-fits c = rw (toZ-ofZ (sfits-of (c .before .left .given))) at (c .within .ensures)
 
 cell-is : (c : tie.After-cell-fits Inv-loop μ-loop) → (let s = entry (turn c) .args in
-    c .cell-fits .result ≡ cellAt (now (s .bed)) (now (s .depth)) (now (s .discharge)) (now (s .mass)) (now (s .base)) (turn c .loop .i))
+    c .cell-fits .result ≡ cellFitsAt (now (s .bed)) (now (s .depth)) (now (s .discharge)) (now (s .mass)) (now (s .base)) (turn c .loop .i))
 cell-is c =
     let s = entry (turn c) .args in
     let i = turn c .loop .i in
@@ -83,7 +83,7 @@ cell-is c =
 
 -- the cell stood ground 7
 cell-fits : (c : tie.Else1 Inv-loop μ-loop) → (let s = entry (turn (c .before)) .args in
-    cellAt (now (s .bed)) (now (s .depth)) (now (s .discharge)) (now (s .mass)) (now (s .base)) (turn (c .before) .loop .i) ≡ true)
+    cellFitsAt (now (s .bed)) (now (s .depth)) (now (s .discharge)) (now (s .mass)) (now (s .base)) (turn (c .before) .loop .i) ≡ true)
 cell-fits c = sym (cell-is (c .before)) ∙ not-false _ (c .if1 .left)
 
 -- the cells have stood ground 7
@@ -113,7 +113,7 @@ carried-fits-requires c κs =
 
 water-is : (c : tie.After-carried-fits Inv-loop μ-loop) → (let t = turn (c .before .before .before) in
     let s = entry t .args in
-    c .carried-fits .result ≡ carriedAt (now (s .depth)) (now (s .base)) (now (s .carried)) undrawn (t .loop .i))
+    c .carried-fits .result ≡ carriedFitsAt (now (s .depth)) (now (s .base)) (now (s .carried)) undrawn (t .loop .i))
 water-is c =
     let p = c .before .before .before .before .before .before .before in
     let t = turn (c .before .before .before) in
