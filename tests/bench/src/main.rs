@@ -89,21 +89,19 @@ fn carrying(r: &mut Random, cells: usize) -> Planned {
     }
 }
 
-/// A flow that has carried water for a step or some.
+/// A flow that has carried water for one to three steps.
 fn flowing(r: &mut Random, cells: usize) -> Planned {
     let mut record = flow(r, cells, 1_000);
-    let mut steps = 1 + r.below(3);
-    while steps > 0 {
+    for _ in 0..=r.below(3) {
         let t = both::greatest(&record) / 4;
         let answer = reference_step(&mut record, t);
         assert_eq!(answer.refusal, 0);
         record.book = answer.book;
-        steps -= 1;
     }
     Planned { record, t: 0 }
 }
 
-/// The records that a call is measured on which takes no time step: of flows, and any.
+/// Records for the calls that take no time step: of flows, and any.
 type Records = fn(&mut Random, usize) -> Planned;
 const RECORDS: [(&str, Records); 2] = [(", flow", flowing), (", any record", carrying)];
 
