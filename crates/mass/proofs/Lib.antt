@@ -1,1 +1,2 @@
 pub mod TransportLaws
+pub mod GainsLaws

@@ -21,6 +21,7 @@ use Rattle.outlet.specs.Outlets.{outletAt, fromCell}
 use Rattle.outlet.specs.declared.Outlets.{Outlets}
 use Rattle.drawing.proofs.DrawingLaws.{all-cells}
 use Rattle.reach.specs.Parts.{parts, outflow, drawnFrom}
+use Rattle.reach.specs.Ranges.{undrawn}
 use Rattle.reach.proofs.PartsLaws.{outflow-is}
 use Rattle.mass.specs.Transport.{MassColumns, massColumns, cellParts, cellOutflow, cellShares, rightShare, leftShare, outletShare, rightwards, leftwards, movedCell}
 use Rattle.mass.specs.Ranges.{ReadyAt, Ready, massMost, movedMass}
@@ -261,33 +262,66 @@ module _ (s : MassColumns) where
   unfolding cellShares
   shares-inside i = refl
 
--- ---- What the outlets of a cell have drawn counts as one part for all that is not an outlet's own share.
-module _ (m b : List ℕ) (c : List ℤ) (d e : ℕ → List ℕ) (x y : ℕ) (same : (i : ℕ) → i < length m → sum (d i) ≡ sum (e i)) where
-  outflow-same : (l r : ℤ) (i : ℕ) → i < length m → outflow l r (d i) ≡ outflow l r (e i)
-  outflow-same l r i k = omega (arith, outflow-is l r (d i), outflow-is l r (e i), same i k)
+-- ---- What the outlets of a cell have drawn changes nothing of what crosses its sides, and is taken off what is left then.
 
-  pub ready-alone : ((i : ℕ) → ReadyAt (massColumns m b c d x y) i) → (i : ℕ) → ReadyAt (massColumns m b c e x y) i
-  ready-alone r i = record {
+pub sum-empty : sum [] ≡ 0
+unfolding sum
+sum-empty = refl
+
+module _ (m b : List ℕ) (c : List ℤ) (d : ℕ → List ℕ) (x y : ℕ) where
+  abbrev drawing : MassColumns
+  drawing = massColumns m b c d x y
+
+  abbrev undrawing : MassColumns
+  undrawing = massColumns m b c undrawn x y
+
+  less-undrawn : (i : ℕ) → cellOutflow undrawing i ≤ cellOutflow drawing i
+  less-undrawn i =
+      let l = getD c i (pos 0) in
+      let r = getD c (i + 1) (pos 0) in
+      omega (arith, outflow-is l r (d i), outflow-is l r [], sum-empty)
+
+  pub ready-undrawn : ((i : ℕ) → ReadyAt drawing i) → (i : ℕ) → ReadyAt undrawing i
+  ready-undrawn r i = record {
     bases = r i .bases;
     interfaces = r i .interfaces;
-    giving = λ l. let g = r i .giving l in record { deep = g .deep; rich = g .rich; covered = rw (← outflow-same (getD c i (pos 0)) (getD c (i + 1) (pos 0)) i l) (g .covered) };
+    giving = λ l. let g = r i .giving l in record { deep = g .deep; rich = g .rich; covered = omega (arith, less-undrawn i, g .covered) };
     entering = r i .entering;
   }
 
-  pub rightwards-alone : (i : ℕ) → rightwards (massColumns m b c d x y) i ≡ rightwards (massColumns m b c e x y) i
+  pub rightwards-undrawn : (i : ℕ) → rightwards undrawing i ≡ rightwards drawing i
   unfolding rightwards cellShares parts shares
-  rightwards-alone zero = refl
-  rightwards-alone (suc i) = refl
+  rightwards-undrawn zero = refl
+  rightwards-undrawn (suc i) = refl
 
-  pub leftwards-alone : (i : ℕ) → leftwards (massColumns m b c d x y) i ≡ leftwards (massColumns m b c e x y) i
+  pub leftwards-undrawn : (i : ℕ) → leftwards undrawing i ≡ leftwards drawing i
   unfolding leftwards cellShares parts shares
-  leftwards-alone i = refl
+  leftwards-undrawn i = refl
 
-  pub moved-alone : movedMass (massColumns m b c d x y) ≡ movedMass (massColumns m b c e x y)
-  unfolding movedCell
-  moved-alone =
-      tabulate-same (length m) _ _
-      (λ i l. rw (outflow-same (getD c i (pos 0)) (getD c (i + 1) (pos 0)) i l, rightwards-alone i, leftwards-alone (i + 1)) refl)
+  no-mass : (i : ℕ) → drawnMass undrawing i ≡ 0
+  unfolding drawnMass shares sum
+  no-mass i = refl
+
+  right-undrawn : (i : ℕ) → rightShare undrawing i ≡ rightShare drawing i
+  unfolding cellShares parts shares
+  right-undrawn i = refl
+
+  left-undrawn : (i : ℕ) → leftShare undrawing i ≡ leftShare drawing i
+  unfolding cellShares parts shares
+  left-undrawn i = refl
+
+  pub moved-undrawn : (i : ℕ) → cellOutflow drawing i ≤ getD b i 0 → movedCell drawing i + drawnMass drawing i ≡ movedCell undrawing i
+  moved-undrawn i covered =
+      omega (
+        arith,
+        moved-is drawing i covered,
+        moved-is undrawing i (omega (arith, less-undrawn i, covered)),
+        no-mass i,
+        right-undrawn i,
+        left-undrawn i,
+        rightwards-undrawn i,
+        leftwards-undrawn (i + 1),
+      )
 
 -- ---- outlets: each share by itself, and all of them
 
@@ -313,7 +347,7 @@ module _ (m b : List ℕ) (c : List ℤ) (os : Outlets) (x y : ℕ) where
       go true e = refl
       go false e = outlet-share-at i k l ∙ rw e (share-nothing (getD m i 0) (getD b i 0) _)
 
-  drawn-mass-is : (i : ℕ) → drawnMass of i ≡ sumBelow (os .count) (λ k. cond (eqb (outletAt os k .cell) i) (outletShare of i k) 0)
+  pub drawn-mass-is : (i : ℕ) → drawnMass of i ≡ sumBelow (os .count) (λ k. cond (eqb (outletAt os k .cell) i) (outletShare of i k) 0)
   unfolding drawnMass fromCell
   drawn-mass-is i =
       sum-by-index (shares (getD m i 0) (getD b i 0) _ (tabulate (os .count) (drawnOf i)))

@@ -1,14 +1,15 @@
 // The mass that goes to each outlet.
 ghost use mathlib.Core.Path.{_≡_};
-ghost use Prim.Native.Nat.{_+_, _≤_, _<_};
+ghost use Prim.Native.Nat.{_+_, _-_, _≤_, _<_};
 ghost use lib.IntN.{pos, negℤ};
 ghost use lib.ListN.{length, getD};
+ghost use Rattle.numbers.specs.Index.{tabulate};
 ghost use Rattle.numbers.specs.Shares.{share};
 ghost use Rattle.numbers.specs.Signed.{positive};
 ghost use Rattle.reach.specs.Limits.{totalMost};
 ghost use Rattle.reach.specs.Parts.{drawnFrom};
 ghost use Rattle.mass.specs.Transport.{massColumns, movedOutlets};
-ghost use Rattle.mass.specs.Ranges.{Giving, massMost, OutletsReady};
+ghost use Rattle.mass.specs.Ranges.{Giving, Gained, massMost, gains, OutletsReady};
 use super::floor_after;
 use numbers::signed::left_part;
 use numbers::signed::right_part;
@@ -63,4 +64,20 @@ pub fn move_outlets(mass: &[u64], base: &[u64], carried: &[i64], outlets: Outlet
         k += 1;
     }
     Outlets { count, list }
+}
+
+// Takes off each cell's mass what its outlets have gained of it.
+pub fn take_gains(mass: &mut [u64], old: Outlets, new: Outlets)
+    requires { ⌜ Gained (now mass) old new ⌝ }
+    ensures { λ _. ⌜ now (mass .exit) ≡ tabulate (length (now (mass .entry))) (λ i. getD (now (mass .entry)) i 0 - gains old new i) ⌝ }
+{
+    let count = old.count;
+    let mut k = 0;
+    while k < count {
+        let o = old.list[k];
+        let next = new.list[k];
+        let cell = o.cell as usize;
+        mass[cell] = mass[cell] - (next.mass - o.mass);
+        k += 1;
+    }
 }

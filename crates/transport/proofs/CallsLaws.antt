@@ -18,22 +18,26 @@ use Rattle.numbers.specs.Signed.{positive}
 use Rattle.numbers.proofs.IndexLaws.{all-of, all-at, getD-tabulate, length-tabulate, sum-tabulate, sum-add, sum-none}
 use Rattle.numbers.proofs.SignedLaws.{abs-parts, pos-le, le-pos, pos-below, lower-bound, upper-bound, sum-lower, sum-upper, times-sum}
 use Rattle.flux.specs.Limits.{depthMost, concentrationMost}
-use Rattle.outlet.specs.Outlets.{outletAt}
+use Rattle.outlet.specs.Outlets.{outletAt, fromCell}
+use Rattle.outlet.specs.declared.Outlet.{Outlet}
+use Rattle.outlet.specs.declared.Outlets.{Outlets}
+use Rattle.outlet.proofs.OutletLaws.{each-at}
 use Rattle.mass.specs.Transport.{MassColumns, massColumns, cellShares, outletShare, rightwards, leftwards, movedCell, movedOutlet, movedOutlets}
-use Rattle.mass.specs.Ranges.{Ready, OutletsReady, massMost, movedMass}
-use Rattle.mass.proofs.TransportLaws.{drawnMass, drawn-mass-sum, ready-alone, rightwards-alone, leftwards-alone, moved-alone, waterRightwards, waterLeftwards, waterStayed, conserved, moved-all, moved-lo, moved-hi, leftwards-small, rightwards-small, leftwards-end}
+use Rattle.mass.specs.Ranges.{Ready, OutletsReady, Gained, gains, massMost, movedMass}
+use Rattle.mass.proofs.GainsLaws.{gained, taken-all}
+use Rattle.mass.proofs.TransportLaws.{drawnMass, drawn-mass-sum, ready-undrawn, rightwards-undrawn, leftwards-undrawn, waterRightwards, waterLeftwards, waterStayed, conserved, moved-all, moved-lo, moved-hi, leftwards-small, rightwards-small, leftwards-end}
 use Rattle.reach.specs.Limits.{wall, cellsMost}
 use Rattle.reach.specs.Reach.{Reach, reachOf, cells, depthAt, baseAt, massAt, carriedAt, leftBoundary, rightBoundary, withBoundaries}
 use Rattle.reach.specs.Grounds.{firstRefusal, recordGrounds, boundariesFit, outletsFit, outletTotalsFit, allTotalsFit, passOr}
 use Rattle.reach.specs.Outcome.{Outcome, outcome}
 use Rattle.reach.specs.Parts.{outflow, drawnFrom}
-use Rattle.reach.specs.Ranges.{alone, cutDrawn}
+use Rattle.reach.specs.Ranges.{undrawn}
 use Rattle.reach.specs.Balance.{massHeld, massIn, massOut, outletMass, massGone, MassBalanced, everywhere, CellsWithin, BoundaryWithin, BoundariesWithin}
 use Rattle.reach.specs.declared.boundary.Boundary.{Boundary}
 use Rattle.reach.specs.declared.refusal.Check.{Check}
 use Rattle.reach.specs.declared.refusal.Check.the-variants.{Pass, Refused}
 use Rattle.reach.proofs.GroundsLaws.{further, no-further, last-one, numbered, refused-number}
-use Rattle.reach.proofs.OutletLaws.{cut-same, each-fits, each-from, each-sum}
+use Rattle.reach.proofs.OutletLaws.{each-fits, each-from, each-sum}
 use Rattle.reach.proofs.PartsLaws.{outflow-is, sum-single}
 use Rattle.reach.proofs.Sound.{Sound, CarriedSound, none-carried, outlets-few, outlet-sound, sound, given-fits, stands, boundary-sound}
 use Rattle.transport.specs.Calls.{enteringLeft, enteringRight, massColumnsOf, withMass, ledgerWith, transportLedger, transportOutlets, transportHeld, afterTransport, transportGrounds, transport, holding, setBoundaries, CameTo}
@@ -87,43 +91,46 @@ module _ (s : Reach) (k : Sound s) where
       ap (λ (n : ℕ). massColumns (s .mass) (s .base) (s .carried) (drawnFrom (s .held .outlets)) (positive (carriedAt s 0) * leftBoundary (s .held .boundaries) .concentration) (positive (negℤ (carriedAt s n)) * rightBoundary (s .held .boundaries) .concentration))
       (k .masses)
 
-  -- and with one number for what each cell's outlets have drawn
-  module _ (d : List ℕ) (e : d ≡ tabulate cellsMost (cutDrawn (s .held .outlets))) where
-    pub drawn-at : (i : ℕ) → i < cells s → getD d i 0 ≡ sum (drawnFrom (s .held .outlets) i)
-    drawn-at i j =
-        let w = k .water i j in
-        let os = s .held .outlets in
-        let few = outlets-few (cells s) os (k .outlets) in
-        ap (λ (c : List ℕ). getD c i 0) e ∙ getD-tabulate cellsMost (cutDrawn os) i 0 (omega (arith, j, k .few))
-        ∙ cut-same os few (positive (carriedAt s (i + 1)) + positive (negℤ (carriedAt s i))) (baseAt s i) i (k .cell i j .base) (omega (arith, w .covered, outflow-is (carriedAt s i) (carriedAt s (i + 1)) (drawnFrom os i)))
+  -- and as of cells that have no outlet
+  pub ready-with : Ready (massColumnsWith (s .mass) (s .base) (s .carried) undrawn (s .held .boundaries))
+  ready-with =
+      let r = subst Ready (sym columns-with) ready in
+      record { each = ready-undrawn (s .mass) (s .base) (s .carried) (drawnFrom (s .held .outlets)) _ _ (r .each); entering = r .entering }
 
-    drawn-one : (i : ℕ) → i < length (s .mass) → sum (drawnFrom (s .held .outlets) i) ≡ sum (alone d i)
-    drawn-one i l = sym (drawn-at i (inside i l)) ∙ sum-single (getD d i 0)
+  pub crossed-with : {a b c o : ℕ} → BoundaryMassOf (massColumnsWith (s .mass) (s .base) (s .carried) undrawn (s .held .boundaries)) a b c o → BoundaryMassOf (massColumnsOf s) a b c o
+  crossed-with {a} {b} {c} {o} x =
+      subst (λ (m : MassColumns). BoundaryMassOf m a b c o) columns-with
+      (record {
+        left-in = x .left-in;
+        left-out = x .left-out ∙ leftwards-undrawn (s .mass) (s .base) (s .carried) (drawnFrom (s .held .outlets)) _ _ 0;
+        right-in = x .right-in;
+        right-out = x .right-out ∙ rightwards-undrawn (s .mass) (s .base) (s .carried) (drawnFrom (s .held .outlets)) _ _ (length (s .mass));
+      })
 
-    pub drawn-long : length (s .mass) ≤ length d
-    drawn-long = omega (arith, k .masses, k .few, ap length e ∙ length-tabulate cellsMost (cutDrawn (s .held .outlets)))
+  module _ {a c : ℕ} (left : a ≡ enteringLeft s) (right : c ≡ enteringRight s) where
+    pub ready-entering : Ready (massColumns (s .mass) (s .base) (s .carried) undrawn a c)
+    ready-entering = rw (left, right) (record { each = ready-undrawn (s .mass) (s .base) (s .carried) (drawnFrom (s .held .outlets)) _ _ (ready .each); entering = ready .entering })
 
-    pub ready-with : Ready (massColumnsWith (s .mass) (s .base) (s .carried) (alone d) (s .held .boundaries))
-    ready-with =
-        let r = subst Ready (sym columns-with) ready in
-        record { each = ready-alone (s .mass) (s .base) (s .carried) (drawnFrom (s .held .outlets)) (alone d) _ _ drawn-one (r .each); entering = r .entering }
+    -- what has moved, of a record with no outlet
+    pub moved-none : s .held .outlets .count ≡ 0 → movedMass (massColumns (s .mass) (s .base) (s .carried) undrawn a c) ≡ movedMass (massColumnsOf s)
+    unfolding fromCell tabulate
+    moved-none e = rw (left, right, e) refl
 
-    pub crossed-with : {a b c o : ℕ} → BoundaryMassOf (massColumnsWith (s .mass) (s .base) (s .carried) (alone d) (s .held .boundaries)) a b c o → BoundaryMassOf (massColumnsOf s) a b c o
-    crossed-with {a} {b} {c} {o} x =
-        subst (λ (m : MassColumns). BoundaryMassOf m a b c o) columns-with
-        (record {
-          left-in = x .left-in;
-          left-out = x .left-out ∙ sym (leftwards-alone (s .mass) (s .base) (s .carried) (drawnFrom (s .held .outlets)) (alone d) _ _ drawn-one 0);
-          right-in = x .right-in;
-          right-out = x .right-out ∙ sym (rightwards-alone (s .mass) (s .base) (s .carried) (drawnFrom (s .held .outlets)) (alone d) _ _ drawn-one (length (s .mass)));
-        })
+    -- and of one whose outlets have each gained their share, which is taken off
+    module _ (after : Outlets) (shared : (k : ℕ) → k < s .held .outlets .count → outletAt after k .mass ≡ outletAt (s .held .outlets) k .mass + outletShare (massColumnsOf s) (outletAt (s .held .outlets) k .cell) k)
+        (column : List ℕ) (e : column ≡ movedMass (massColumns (s .mass) (s .base) (s .carried) undrawn a c))
+      where
+        moved : column ≡ movedMass (massColumns (s .mass) (s .base) (s .carried) undrawn (enteringLeft s) (enteringRight s))
+        moved = e ∙ rw (left, right) refl
 
-    module _ {a c : ℕ} (left : a ≡ enteringLeft s) (right : c ≡ enteringRight s) where
-      pub ready-entering : Ready (massColumns (s .mass) (s .base) (s .carried) (alone d) a c)
-      ready-entering = rw (left, right) (record { each = ready-alone (s .mass) (s .base) (s .carried) (drawnFrom (s .held .outlets)) (alone d) _ _ drawn-one (ready .each); entering = ready .entering })
+        pub gained-entering : Gained column (s .held .outlets) after
+        gained-entering =
+            gained (s .mass) (s .base) (s .carried) (s .held .outlets) after (enteringLeft s) (enteringRight s) shared (λ i l. ready .each i .giving l .covered) column moved
+            (outlets-few (cells s) (s .held .outlets) (k .outlets)) (omega (arith, k .masses, k .few))
+            (λ j l. omega (arith, k .masses, outlet-sound (cells s) (s .held .outlets) (k .outlets) j l .cell))
 
-      pub moved-entering : movedMass (massColumns (s .mass) (s .base) (s .carried) (alone d) a c) ≡ movedMass (massColumnsOf s)
-      moved-entering = rw (left, right) (sym (moved-alone (s .mass) (s .base) (s .carried) (drawnFrom (s .held .outlets)) (alone d) _ _ drawn-one))
+        pub taken-entering : tabulate (length column) (λ i. getD column i 0 - gains (s .held .outlets) after i) ≡ movedMass (massColumnsOf s)
+        taken-entering = taken-all (s .mass) (s .base) (s .carried) (s .held .outlets) after (enteringLeft s) (enteringRight s) shared (λ i l. ready .each i .giving l .covered) column moved
 
   -- and to move the outlets' mass
   pub outlets-ready : OutletsReady (s .mass) (s .base) (s .carried) (s .held .outlets)
@@ -140,6 +147,11 @@ module _ (s : Reach) (k : Sound s) where
   pub outlets-are : movedOutlets (massColumns (s .mass) (s .base) (s .carried) (drawnFrom (s .held .outlets)) 0 0) (s .held .outlets) ≡ transportOutlets s
   unfolding transportOutlets movedOutlets movedOutlet cellShares
   outlets-are = refl
+
+  -- each outlet gains its share
+  pub shares-moved : (j : ℕ) → j < s .held .outlets .count → outletAt (transportOutlets s) j .mass ≡ outletAt (s .held .outlets) j .mass + outletShare (massColumnsOf s) (outletAt (s .held .outlets) j .cell) j
+  unfolding transportOutlets movedOutlets movedOutlet
+  shares-moved j l = ap (λ (o : Outlet). o .mass) (each-at (movedOutlet (massColumnsOf s) (s .held .outlets)) (s .held .outlets) (outlets-few (cells s) (s .held .outlets) (k .outlets)) j l)
 
   pub small : (a b c d : ℕ) → BoundaryMassOf (massColumnsOf s) a b c d → Small a b c d
   small a b c d x =

@@ -6,10 +6,9 @@ ghost use lib.IntN.{pos};
 ghost use lib.ListN.{length, replicate};
 ghost use Rattle.mass.specs.Transport.{massColumns};
 ghost use Rattle.mass.specs.Ranges.{Ready, massMost, movedMass};
-ghost use Rattle.numbers.specs.Index.{tabulate};
-ghost use Rattle.reach.specs.Limits.{cellsMost, totalMost};
+ghost use Rattle.reach.specs.Limits.{totalMost};
 ghost use Rattle.outlet.specs.Outlets.{outletsMost};
-ghost use Rattle.reach.specs.Ranges.{alone, cutDrawn};
+ghost use Rattle.reach.specs.Ranges.{undrawn};
 ghost use Rattle.reach.specs.Reach.{reachOf, came};
 ghost use Rattle.reach.specs.Grounds.{ledgerFits, allTotalsFit, firstRefusal, recordGrounds, numberOf, passOr};
 ghost use Rattle.reach.specs.declared.refusal.Check.the-variants.{Pass};
@@ -17,14 +16,14 @@ ghost use Rattle.transport.specs.Calls.{withMass, ledgerWith, setBoundar
 ghost use Rattle.transport.specs.Ranges.{massColumnsWith, BoundaryMassOf, Small, answer};
 use mass::move_mass;
 use mass::outlets::move_outlets;
+use mass::outlets::take_gains;
 use mass::shares_at;
 use numbers::columns::clear_column;
 use numbers::columns::copy_column;
 use numbers::signed::left_part;
 use numbers::signed::right_part;
 use reach::boundary::Boundary;
-use reach::cells::CELLS_MOST;
-use reach::check_record_with;
+use reach::check_record;
 use reach::held::Held;
 use reach::held::all_totals_fit;
 use reach::ledger::Ledger;
@@ -61,18 +60,17 @@ pub fn boundary_mass_of(
     mass: &[u64],
     base: &[u64],
     carried: &[i64],
-    drawn: &[u64],
     boundaries: [Boundary; 2],
 ) -> BoundaryMass
-    requires { ⌜ Ready (massColumnsWith (now mass) (now base) (now carried) (alone (now drawn)) boundaries) ⌝ }
-    requires { ⌜ (1 ≤ length (now mass)) × (length (now mass) ≤ length (now drawn)) ⌝ }
-    ensures { λ r. ⌜ BoundaryMassOf (massColumnsWith (now (mass .entry)) (now (base .entry)) (now (carried .entry)) (alone (now (drawn .entry))) boundaries) (r .«left_in») (r .«left_out») (r .«right_in») (r .«right_out») ⌝ }
+    requires { ⌜ Ready (massColumnsWith (now mass) (now base) (now carried) undrawn boundaries) ⌝ }
+    requires { ⌜ 1 ≤ length (now mass) ⌝ }
+    ensures { λ r. ⌜ BoundaryMassOf (massColumnsWith (now (mass .entry)) (now (base .entry)) (now (carried .entry)) undrawn boundaries) (r .«left_in») (r .«left_out») (r .«right_in») (r .«right_out») ⌝ }
 {
     let n = mass.len();
     let left_in = right_part(carried[0]) * boundaries[0].concentration;
     let right_in = left_part(carried[n]) * boundaries[1].concentration;
-    let first = shares_at(mass, base, carried, drawn, 0);
-    let last = shares_at(mass, base, carried, drawn, n - 1);
+    let first = shares_at(mass, base, carried, 0);
+    let last = shares_at(mass, base, carried, n - 1);
     BoundaryMass {
         left_in,
         left_out: first.left,
@@ -119,23 +117,22 @@ pub fn check_room(held: Held) -> Check
     Check::Pass
 }
 
-// Shares move, the base depth becomes the depth, the carried water becomes 0. Nothing refuses any more.
+// Shares move but those of the outlets, the base depth becomes the depth, the carried water becomes 0. Nothing refuses any more.
 pub fn commit(
     depth: &[u64],
     mass: &mut [u64],
     base: &mut [u64],
     carried: &mut [i64],
-    drawn: &[u64],
     left_in: u64,
     right_in: u64,
 )
-    requires { ⌜ Ready (massColumns (now mass) (now base) (now carried) (alone (now drawn)) «left_in» «right_in») ⌝ }
-    requires { ⌜ (length (now base) ≡ length (now depth)) × (length (now mass) ≤ length (now drawn)) ⌝ }
-    ensures { λ _. ⌜ now (mass .exit) ≡ movedMass (massColumns (now (mass .entry)) (now (base .entry)) (now (carried .entry)) (alone (now (drawn .entry))) «left_in» «right_in») ⌝ }
+    requires { ⌜ Ready (massColumns (now mass) (now base) (now carried) undrawn «left_in» «right_in») ⌝ }
+    requires { ⌜ length (now base) ≡ length (now depth) ⌝ }
+    ensures { λ _. ⌜ now (mass .exit) ≡ movedMass (massColumns (now (mass .entry)) (now (base .entry)) (now (carried .entry)) undrawn «left_in» «right_in») ⌝ }
     ensures { λ _. ⌜ now (base .exit) ≡ now (depth .entry) ⌝ }
     ensures { λ _. ⌜ now (carried .exit) ≡ replicate (length (now (carried .entry))) (pos 0) ⌝ }
 {
-    move_mass(mass, base, carried, drawn, left_in, right_in);
+    move_mass(mass, base, carried, left_in, right_in);
     copy_column(base, depth);
     clear_column(carried);
 }
@@ -151,16 +148,14 @@ fn transport_under(
     x: u64,
     held: Held,
     given: [Boundary; 2],
-    drawn: &[u64],
 ) -> TransportAnswer
     requires { ⌜ firstRefusal (recordGrounds (reachOf (now bed) (now depth) (now discharge) (now mass) (now base) (now carried) x held) given) ≡ Pass ⌝ }
-    requires { ⌜ now drawn ≡ tabulate cellsMost (cutDrawn (held .outlets)) ⌝ }
     ensures { λ r. ⌜ CameTo (setBoundaries (came bed depth discharge mass base carried x held) given) r (now (mass .exit)) (now (base .exit)) (now (carried .exit)) ⌝ }
 {
     let old = held.boundaries;
     let ledger = held.ledger;
     let outlets = held.outlets;
-    let crossed = boundary_mass_of(mass, base, carried, drawn, old);
+    let crossed = boundary_mass_of(mass, base, carried, old);
     let next = entered(ledger, crossed);
     let moved = move_outlets(mass, base, carried, outlets);
     let after = Held {
@@ -176,10 +171,16 @@ fn transport_under(
         mass,
         base,
         carried,
-        drawn,
         crossed.left_in,
         crossed.right_in,
     );
+    if outlets.count == 0 {
+        return TransportAnswer {
+            refusal: 0,
+            held: after,
+        };
+    }
+    take_gains(mass, outlets, moved);
     TransportAnswer {
         refusal: 0,
         held: after,
@@ -200,34 +201,11 @@ pub fn set_boundaries(
 ) -> TransportAnswer
     ensures { λ r. ⌜ CameTo (setBoundaries (came bed depth discharge mass base carried x held) given) r (now (mass .exit)) (now (base .exit)) (now (carried .exit)) ⌝ }
 {
-    let mut drawn = [0u64; CELLS_MOST];
-    let checked = check_record_with(
-        bed,
-        depth,
-        discharge,
-        mass,
-        base,
-        carried,
-        x,
-        held,
-        given,
-        &mut drawn,
-    );
+    let checked = check_record(bed, depth, discharge, mass, base, carried, x, held, given);
     let Check::Pass = checked else {
         return refused(checked, held);
     };
-    transport_under(
-        bed,
-        depth,
-        discharge,
-        mass,
-        base,
-        carried,
-        x,
-        held,
-        given,
-        &drawn,
-    )
+    transport_under(bed, depth, discharge, mass, base, carried, x, held, given)
 }
 
 // Transports by itself: the paper's 'settling'.

@@ -9,27 +9,27 @@ use borrow.Author.Needs.{needs}
 use lib.ListN.{length, getD, length-set}
 use Rattle.numbers.proofs.IndexLaws.{Written, written-none, written-more, written-all}
 use Rattle.reach.specs.Parts.{rightOf, leftOf}
-use Rattle.reach.specs.Ranges.{alone}
+use Rattle.reach.specs.Ranges.{undrawn}
 use Rattle.mass.specs.Transport.{MassColumns, massColumns, cellShares, rightShare, leftwards, rightwards, movedCell}
 use Rattle.mass.proofs.TransportLaws.{stayed, moved-by, stayed-small, rightwards-next, leftwards-cell, leftwards-end, leftwards-small, rightwards-small, ready-same, ready-inside, shares-same, shares-inside}
 use Rattle.mass.proofs.move_mass.Statement.{statement}
 use Rattle.mass.proofs.move_mass.Tie as tie
 
 abbrev Inv-loop : tie.InvT-loop
-Inv-loop m₀ b c d left-in right-in n held₀ right₀ i₀ m held right i =
-    let s = massColumns m₀ b c (alone d) left-in right-in in
+Inv-loop m₀ b c left-in right-in n held₀ right₀ i₀ m held right i =
+    let s = massColumns m₀ b c undrawn left-in right-in in
     (i < n) × Written 0 (movedCell s) m₀ i m × (held ≡ stayed s i + rightwards s i) × (right ≡ rightShare s i)
 
 abbrev μ-loop : tie.MeasureT-loop
-μ-loop m₀ b c d left-in right-in n held₀ right₀ i₀ m held right i = n - i
+μ-loop m₀ b c left-in right-in n held₀ right₀ i₀ m held right i = n - i
 
 abbrev col : tie.Start Inv-loop μ-loop → MassColumns
-col s = massColumns (now (s .args .mass)) (now (s .args .base)) (now (s .args .carried)) (alone (now (s .args .drawn))) (s .args .left-in) (s .args .right-in)
+col s = massColumns (now (s .args .mass)) (now (s .args .base)) (now (s .args .carried)) undrawn (s .args .left-in) (s .args .right-in)
 
 -- ---- the first cell
 
 abbrev first : tie.After-shares-at Inv-loop μ-loop → tie.Start Inv-loop μ-loop
-first c = c .before .before .before .before .before .before
+first c = c .before .before .before .before .before
 
 some : (c : tie.After-shares-at Inv-loop μ-loop) → 0 < length (col (first c) .mass)
 some c = let e = c .before .before .if1 .left in omega arith
@@ -39,18 +39,18 @@ first-right c = ap rightOf (c .shares-at .ensures .0 ∙ shares-inside (col (fir
 
 returns : tie.Need-returns Inv-loop μ-loop
 returns c =
-    let s = col (c .before .before .before .before) in
+    let s = col (c .before .before .before) in
     written-all 0 (movedCell s) (s .mass) 0 (s .mass) (written-none _ _ _) (sym (c .if1 .taken))
 
 shares-at-requires : tie.Need-shares-at-requires Inv-loop μ-loop
 shares-at-requires c κs =
-    let s = c .before .before .before .before .before in
+    let s = c .before .before .before .before in
     let e = c .before .if1 .left in
-    (ready-inside (col s) 0 (s .pre .0 .each 0), (omega arith, s .pre .1))
+    (ready-inside (col s) 0 (s .pre .each 0), omega arith)
 
 with-share-requires : tie.Need-with-share-requires Inv-loop μ-loop
 with-share-requires c κs =
-    let r = first c .pre .0 in
+    let r = first c .pre in
     (omega (arith, c .shares-at .ensures .1, stayed-small (col (first c)) 0 (r .each 0) (some c)), r .entering)
 
 loop-holds : tie.Need-loop-holds Inv-loop μ-loop
@@ -62,7 +62,7 @@ loop-holds c =
 -- ---- a turn: cell i is written, and the next one is at hand
 
 abbrev entry : tie.At-loop Inv-loop μ-loop → tie.Start Inv-loop μ-loop
-entry c = c .before .before .before .before .before .before .before .before
+entry c = c .before .before .before .before .before .before .before
 
 module _ (c : tie.At-loop Inv-loop μ-loop) where
   abbrev s : MassColumns
@@ -73,11 +73,11 @@ module _ (c : tie.At-loop Inv-loop μ-loop) where
 
   held-small : c .loop .held ≤ 4_000_000_000_000
   held-small =
-      let r = entry c .pre .0 in
+      let r = entry c .pre in
       omega (arith, c .loop .inv .2, stayed-small s at (r .each at) (c .loop .inv .0), rightwards-small s r at (omega (arith, c .loop .inv .0)))
 
   right-small : c .loop .right ≤ 2_000_000_000_000
-  right-small = omega (arith, c .loop .inv .3, rightwards-next s at, rightwards-small s (entry c .pre .0) (at + 1) (omega (arith, c .loop .inv .0)))
+  right-small = omega (arith, c .loop .inv .3, rightwards-next s at, rightwards-small s (entry c .pre) (at + 1) (omega (arith, c .loop .inv .0)))
 
 abbrev turn : tie.After-shares-at2 Inv-loop μ-loop → tie.At-loop Inv-loop μ-loop
 turn c = c .before .before .before
@@ -92,7 +92,7 @@ module _ (c : tie.After-shares-at2 Inv-loop μ-loop) where
   as-it-came : getD (turn c .loop .mass) next 0 ≡ getD (s (turn c) .mass) next 0
   as-it-came = turn c .loop .inv .1 .same next (omega arith)
 
-  next-shares : c .shares-at2 .result .right ∷ c .shares-at2 .result .left ∷ c .shares-at2 .result .drawn ∷ [] ≡ cellShares (s (turn c)) next
+  next-shares : c .shares-at2 .result .right ∷ c .shares-at2 .result .left ∷ [] ≡ cellShares (s (turn c)) next
   next-shares =
       c .shares-at2 .ensures .0
       ∙ shares-same _ _ _ _ _ 0 0 0 (turn c .loop .inv .1 .long) next as-it-came
@@ -116,12 +116,12 @@ shares-at-requires-2 c κs =
     let w = b .loop .inv .1 in
     let j = at b + 1 in
     let l : j < length (s b .mass) = c .before .loop-test .taken in
-    (ready-same _ _ _ _ _ _ _ _ (w .long) j (w .same j (omega arith)) (ready-inside (s b) j (entry b .pre .0 .each j)), (omega (arith, w .long, l), omega (arith, w .long, entry b .pre .1)))
+    (ready-same _ _ _ _ _ _ _ _ (w .long) j (w .same j (omega arith)) (ready-inside (s b) j (entry b .pre .each j)), omega (arith, w .long, l))
 
 with-share-requires-2 : tie.Need-with-share-requires-2 Inv-loop μ-loop
 with-share-requires-2 c κs =
     let b = turn c in
-    (held-small b, omega (arith, next-left c, leftwards-small (s b) (next c) (entry b .pre .0 .each (next c)) (omega (arith, there c))))
+    (held-small b, omega (arith, next-left c, leftwards-small (s b) (next c) (entry b .pre .each (next c)) (omega (arith, there c))))
 
 mul-mass : tie.Need-mul-mass Inv-loop μ-loop
 mul-mass c = search needs
@@ -133,7 +133,7 @@ with-share-requires-3 : tie.Need-with-share-requires-3 Inv-loop μ-loop
 with-share-requires-3 c κs =
     let n = c .before in
     let b = turn n in
-    (omega (arith, next-stays n, stayed-small (s b) (next n) (entry b .pre .0 .each (next n)) (there n)), right-small b)
+    (omega (arith, next-stays n, stayed-small (s b) (next n) (entry b .pre .each (next n)) (there n)), right-small b)
 
 add-i : tie.Need-add-i Inv-loop μ-loop
 add-i c = search needs
@@ -155,7 +155,7 @@ loop-again c =
 -- ---- the last cell
 
 with-share-requires-4 : tie.Need-with-share-requires-4 Inv-loop μ-loop
-with-share-requires-4 c κs = (held-small (c .before), entry (c .before) .pre .0 .each 0 .entering)
+with-share-requires-4 c κs = (held-small (c .before), entry (c .before) .pre .each 0 .entering)
 
 mul-mass-2 : tie.Need-mul-mass-2 Inv-loop μ-loop
 mul-mass-2 c = search needs

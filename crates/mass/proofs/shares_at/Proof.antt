@@ -10,19 +10,19 @@ use mir.Facts.{toZ-ofZ}
 use borrow.Author.Needs.{sfits-of}
 use Rattle.numbers.specs.Shares.{shares, rest}
 use Rattle.reach.specs.Parts.{parts}
-use Rattle.reach.specs.Ranges.{alone}
-use Rattle.reach.proofs.PartsLaws.{outflow-is, sum-single}
+use Rattle.reach.specs.Ranges.{undrawn}
+use Rattle.reach.proofs.PartsLaws.{outflow-is}
 use Rattle.mass.specs.Transport.{MassColumns, massColumns, cellShares}
-use Rattle.mass.proofs.TransportLaws.{waterRightwards, waterLeftwards}
+use Rattle.mass.proofs.TransportLaws.{waterRightwards, waterLeftwards, sum-empty}
 use borrow.Author.Needs.{needs}
 use Rattle.mass.proofs.shares_at.Statement.{statement}
 use Rattle.mass.proofs.shares_at.Tie as tie
 
 abbrev entry : tie.After-left-part → tie.Start
-entry c = c .before .before .before .before .before .before .before .before .before
+entry c = c .before .before .before .before .before .before .before .before
 
 abbrev col : tie.Start → MassColumns
-col s = massColumns (now (s .args .mass)) (now (s .args .base)) (now (s .args .carried)) (alone (now (s .args .drawn))) 0 0
+col s = massColumns (now (s .args .mass)) (now (s .args .base)) (now (s .args .carried)) undrawn 0 0
 
 right-is : (c : tie.After-left-part) → c .before .before .right-part .result ≡ waterRightwards (col (entry c)) (entry c .args .i + 1)
 right-is c = rw (toZ-ofZ (sfits-of (c .before .before .before .right-part-arg .given))) at (c .before .before .right-part .ensures)
@@ -63,40 +63,30 @@ shared-slice-copy-out-left-part c = search needs
 left-part-requires : tie.Need-left-part-requires
 left-part-requires c κs = search needs
 
-mul-shares-of-3 : tie.Need-mul-shares-of-3
-mul-shares-of-3 c = search needs
-
-shared-slice-read-shares-of-3 : tie.Need-shared-slice-read-shares-of-3
-shared-slice-read-shares-of-3 c = search needs
-
 shares-of-requires : tie.Need-shares-of-requires
 shares-of-requires c κs =
-    let b = c .before in
-    let s = entry b in
-    let g = s .pre .0 .giving (s .pre .1 .0) in
+    let s = entry c in
+    let g = s .pre .0 .giving (s .pre .1) in
     let carried : ℕ → ℤ = λ i. getD (col s .carried) i (pos 0) in
-    let d = getD (now (s .args .drawn)) (s .args .i) 0 in
-    let e = outflow-is (carried (s .args .i)) (carried (s .args .i + 1)) (d ∷ []) in
-    record { deep = g .deep; rich = g .rich; covered = omega (arith, right-is b, left-is b, e, sum-single d, g .covered) }
+    let e = outflow-is (carried (s .args .i)) (carried (s .args .i + 1)) [] in
+    record { deep = g .deep; rich = g .rich; covered = omega (arith, right-is c, left-is c, e, sum-empty, g .covered) }
 
-shares-are : (c : tie.After-shares-of) →
-    c .shares-of .result .right ∷ c .shares-of .result .left ∷ c .shares-of .result .drawn ∷ [] ≡ cellShares (col (entry (c .before .before))) (entry (c .before .before) .args .i)
+shares-are : (c : tie.After-shares-of) → c .shares-of .result .right ∷ c .shares-of .result .left ∷ [] ≡ cellShares (col (entry (c .before))) (entry (c .before) .args .i)
 unfolding cellShares parts
 shares-are c =
-    let s = entry (c .before .before) in
+    let s = entry (c .before) in
     let x = col s in
     let i = s .args .i in
-    c .shares-of .ensures .0 ∙ ap₂ (λ (r l : ℕ). shares (getD (x .mass) i 0) (getD (x .base) i 0) 0 (r ∷ l ∷ getD (now (s .args .drawn)) i 0 ∷ [])) (right-is (c .before .before)) (left-is (c .before .before))
+    c .shares-of .ensures .0 ∙ ap₂ (λ (r l : ℕ). shares (getD (x .mass) i 0) (getD (x .base) i 0) 0 (r ∷ l ∷ [])) (right-is (c .before)) (left-is (c .before))
 
 returns : tie.Need-returns
 returns c =
-    let b = c .before .before in
+    let b = c .before in
     let s = entry b in
     let x = col s in
     let i = s .args .i in
-    let d = getD (now (s .args .drawn)) i 0 in
-    let e = outflow-is (getD (x .carried) i (pos 0)) (getD (x .carried) (i + 1) (pos 0)) (d ∷ []) in
-    (shares-are c, c .shares-of .ensures .1 ∙ ap (rest (getD (x .mass) i 0) (getD (x .base) i 0)) (omega (arith, right-is b, left-is b, e, sum-single d)))
+    let e = outflow-is (getD (x .carried) i (pos 0)) (getD (x .carried) (i + 1) (pos 0)) [] in
+    (shares-are c, c .shares-of .ensures .1 ∙ ap (rest (getD (x .mass) i 0) (getD (x .base) i 0)) (omega (arith, right-is b, left-is b, e, sum-empty)))
 
 pub shares-at-spec : {M : Type 1} → statement M
 shares-at-spec =
@@ -113,7 +103,5 @@ shares-at-spec =
     mul-left-part
     shared-slice-copy-out-left-part
     left-part-requires
-    mul-shares-of-3
-    shared-slice-read-shares-of-3
     shares-of-requires
     returns)

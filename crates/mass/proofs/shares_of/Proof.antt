@@ -10,12 +10,12 @@ use borrow.Author.Needs.{needs}
 use Rattle.mass.proofs.shares_of.Statement.{statement}
 use Rattle.mass.proofs.shares_of.Tie as tie
 
-by-floors : (m b R L D x y z : ℕ) → x ≡ m * (0 + R) / b → y ≡ m * (R + L) / b → z ≡ m * (R + L + D) / b → x ∷ (y - x) ∷ (z - y) ∷ [] ≡ shares m b 0 (R ∷ L ∷ D ∷ [])
+by-floors : (m b R L x y : ℕ) → x ≡ m * (0 + R) / b → y ≡ m * (R + L) / b → x ∷ (y - x) ∷ [] ≡ shares m b 0 (R ∷ L ∷ [])
 unfolding shares share
-by-floors m b R L D x y z p q r =
-    rw (p, q, r, zero-add)
+by-floors m b R L x y p q =
+    rw (p, q, zero-add)
     (let first : m * R / b ≡ m * R / b - m * 0 / b = omega (arith, floor-none m b) in
-    ap (λ (w : ℕ). w ∷ (m * (R + L) / b - m * R / b) ∷ (m * (R + L + D) / b - m * (R + L) / b) ∷ []) first)
+    ap (λ (w : ℕ). w ∷ (m * (R + L) / b - m * R / b) ∷ []) first)
 
 floor-after-requires : tie.Need-floor-after-requires
 floor-after-requires c κs =
@@ -25,38 +25,21 @@ floor-after-requires c κs =
 floor-after-requires-2 : tie.Need-floor-after-requires-2
 floor-after-requires-2 c κs =
     let s = c .before in
-    let g = s .pre in
-    (record { deep = g .deep; rich = g .rich; covered = omega (arith, g .covered) }, c .floor-after .ensures ∙ ap (λ (p : ℕ). s .args .m * p / s .args .b) (zero-add (s .args .right)))
+    (s .pre, c .floor-after .ensures ∙ ap (λ (p : ℕ). s .args .m * p / s .args .b) (zero-add (s .args .right)))
 
-add-floor-after : tie.Need-add-floor-after
-add-floor-after c = let g = c .before .before .pre in omega (arith, g .covered, g .deep)
+sub-t7 : tie.Need-sub-t7
+sub-t7 c =
+    let s = c .before .before .args in
+    omega (arith, c .before .floor-after .ensures, ap (λ (p : ℕ). s .m * p / s .b) (zero-add (s .right)), c .floor-after2 .ensures, floor-mono (s .m) (s .b) (s .right) (s .left))
 
-floor-after-requires-3 : tie.Need-floor-after-requires-3
-floor-after-requires-3 c κs = (c .before .before .pre, c .floor-after2 .ensures)
-
-second-less : (c : tie.After-floor-after3) → c .before .before .floor-after .result ≤ c .before .floor-after2 .result
-second-less c =
-    let s = c .before .before .before .args in
-    omega (arith, c .before .before .floor-after .ensures, ap (λ (p : ℕ). s .m * p / s .b) (zero-add (s .right)), c .before .floor-after2 .ensures, floor-mono (s .m) (s .b) (s .right) (s .left))
-
-sub-t9 : tie.Need-sub-t9
-sub-t9 c = second-less c
-
-sub-t10 : tie.Need-sub-t10
-sub-t10 c =
-    let s = c .before .before .before .args in
-    omega (arith, c .before .floor-after2 .ensures, c .floor-after3 .ensures, floor-mono (s .m) (s .b) (s .right + s .left) (s .drawn))
-
-sub-t11 : tie.Need-sub-t11
-sub-t11 c =
-    let s = c .before .before .before in
-    omega (arith, c .floor-after3 .ensures, floor-all (s .args .m) (s .args .b) (s .args .right + s .args .left + s .args .drawn) (s .pre .covered))
+sub-t8 : tie.Need-sub-t8
+sub-t8 c =
+    let s = c .before .before in
+    omega (arith, c .floor-after2 .ensures, floor-all (s .args .m) (s .args .b) (s .args .right + s .args .left) (s .pre .covered))
 
 returns : tie.Need-returns
 unfolding rest
-returns c = (by-floors _ _ _ _ _ _ _ _ (c .before .before .floor-after .ensures) (c .before .floor-after2 .ensures) (c .floor-after3 .ensures), ap (λ (x : ℕ). c .before .before .before .args .m - x) (c .floor-after3 .ensures))
+returns c = (by-floors _ _ _ _ _ _ (c .before .floor-after .ensures) (c .floor-after2 .ensures), ap (λ (x : ℕ). c .before .before .args .m - x) (c .floor-after2 .ensures))
 
 pub shares-of-spec : {M : Type 1} → statement M
-shares-of-spec =
-    tie.close
-    (tie.spec floor-after-requires floor-after-requires-2 add-floor-after floor-after-requires-3 sub-t9 sub-t10 sub-t11 returns)
+shares-of-spec = tie.close (tie.spec floor-after-requires floor-after-requires-2 sub-t7 sub-t8 returns)

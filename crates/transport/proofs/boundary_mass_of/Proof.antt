@@ -9,7 +9,7 @@ use borrow.Author.Needs.{sfits-of}
 use Rattle.mass.specs.Transport.{MassColumns, rightwards}
 use Rattle.mass.proofs.TransportLaws.{ready-inside, shares-inside, leftwards-cell, rightwards-next}
 use Rattle.reach.specs.Parts.{leftOf, rightOf}
-use Rattle.reach.specs.Ranges.{alone}
+use Rattle.reach.specs.Ranges.{undrawn}
 use Rattle.reach.specs.Reach.{leftBoundary, rightBoundary}
 use Rattle.transport.specs.Ranges.{massColumnsWith}
 use borrow.Author.Needs.{needs}
@@ -17,29 +17,29 @@ use Rattle.transport.proofs.boundary_mass_of.Statement.{statement}
 use Rattle.transport.proofs.boundary_mass_of.Tie as tie
 
 abbrev col : tie.Start → MassColumns
-col s = massColumnsWith (now (s .args .mass)) (now (s .args .base)) (now (s .args .carried)) (alone (now (s .args .drawn))) (s .args .t5)
+col s = massColumnsWith (now (s .args .mass)) (now (s .args .base)) (now (s .args .carried)) undrawn (s .args .t4)
 
 -- the entry, from the first and from the second boundary
 abbrev first : tie.After-right-part → tie.Start
-first c = c .before .before .before .before .before
+first c = c .before .before .before .before
 
 abbrev second : tie.After-left-part → tie.Start
 second c = first (c .before .before)
 
-left-in : (c : tie.After-right-part) → c .right-part .result * leftBoundary (first c .args .t5) .concentration ≡ col (first c) .leftIn
+left-in : (c : tie.After-right-part) → c .right-part .result * leftBoundary (first c .args .t4) .concentration ≡ col (first c) .leftIn
 left-in c =
-    ap (λ (k : ℕ). k * leftBoundary (first c .args .t5) .concentration)
+    ap (λ (k : ℕ). k * leftBoundary (first c .args .t4) .concentration)
     (rw (toZ-ofZ (sfits-of (c .before .right-part-arg .given))) at (c .right-part .ensures))
 
 right-in : (c : tie.After-left-part) →
-    c .left-part .result * rightBoundary (second c .args .t5) .concentration
+    c .left-part .result * rightBoundary (second c .args .t4) .concentration
     ≡ col (second c) .rightIn
 right-in c =
-    ap (λ (k : ℕ). k * rightBoundary (second c .args .t5) .concentration)
+    ap (λ (k : ℕ). k * rightBoundary (second c .args .t4) .concentration)
     (rw (toZ-ofZ (sfits-of (c .before .left-part-arg .given))) at (c .left-part .ensures))
 
 shared-slice-copy-out-right-part : tie.Need-shared-slice-copy-out-right-part
-shared-slice-copy-out-right-part c = omega (arith, c .before .before .before .pre .0 .each 0 .interfaces)
+shared-slice-copy-out-right-part c = omega (arith, c .before .before .pre .0 .each 0 .interfaces)
 
 right-part-requires : tie.Need-right-part-requires
 right-part-requires c κs = search needs
@@ -68,7 +68,7 @@ mul-right-in c = rw (right-in c) (fits-below tt (second c .pre .0 .each 0 .enter
 shares-at-requires : tie.Need-shares-at-requires
 shares-at-requires c κs =
     let s = second c in
-    (ready-inside (col s) 0 (s .pre .0 .each 0), (omega arith, s .pre .1 .1))
+    (ready-inside (col s) 0 (s .pre .0 .each 0), omega arith)
 
 sub-shares-at : tie.Need-sub-shares-at
 sub-shares-at c = search needs
@@ -76,7 +76,7 @@ sub-shares-at c = search needs
 shares-at-requires-2 : tie.Need-shares-at-requires-2
 shares-at-requires-2 c κs =
     let s = second (c .before) in
-    (ready-inside (col s) _ (s .pre .0 .each _), (omega arith, s .pre .1 .1))
+    (ready-inside (col s) _ (s .pre .0 .each _), omega arith)
 
 returns : tie.Need-returns
 returns c =
