@@ -104,3 +104,25 @@ module _ (m b : List ℕ) (c : List ℤ) (os after : Outlets) (x y : ℕ)
       taken-all =
           ap (λ (n : ℕ). tabulate n (λ i. getD column i 0 - gains os after i)) long
           ∙ tabulate-same (length m) _ _ (λ i l. omega (arith, there i l))
+
+-- outlets that have gained nothing
+module _ (m : List ℕ) (os after : Outlets) (same : (k : ℕ) → k < os .count → outletAt after k .mass ≡ outletAt os k .mass) where
+  gains-none : (i : ℕ) → gains os after i ≡ 0
+  unfolding gains
+  gains-none i = sum-none (os .count) (gainAt os after i) (λ k l. at (eqb (outletAt os k .cell) i) _ _ (same k l))
+    where
+      at : (t : Bool) (p q : ℕ) → p ≡ q → cond t (p - q) 0 ≡ 0
+      at true p q e = omega arith
+      at false p q e = refl
+
+  pub gained-none : os .count ≤ outletsMost → length m ≤ cellsMost → ((k : ℕ) → k < os .count → outletAt os k .cell < length m) → Gained m os after
+  gained-none few cells inside = record {
+    few = few;
+    inside = inside;
+    cells = cells;
+    grown = λ k l. omega (arith, same k l);
+    most = λ i l. omega (arith, gains-none i);
+  }
+
+  pub taken-same : tabulate (length m) (λ i. getD m i 0 - gains os after i) ≡ m
+  taken-same = sym (by-index (length m) (λ i. getD m i 0 - gains os after i) 0 m refl (λ i l. omega (arith, gains-none i)))

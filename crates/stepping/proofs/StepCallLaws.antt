@@ -18,6 +18,7 @@ use Rattle.numbers.proofs.IndexLaws.{and-both, and-left, and-right, all-of, all
 use Rattle.numbers.proofs.SearchLaws.{by-less}
 use Rattle.numbers.proofs.SignedLaws.{abs-neg}
 use Rattle.outlet.specs.Outlets.{outletsMost, wantMost, outletAt}
+use Rattle.outlet.specs.declared.Outlet.{Outlet}
 use Rattle.outlet.specs.declared.Outlets.{Outlets}
 use Rattle.outlet.proofs.OutletLaws.{each-at, each-count, each-same}
 use Rattle.drawing.specs.Ranges.{Granted}
@@ -32,7 +33,7 @@ use Rattle.reach.specs.Reach.{Reach, reachOf, cells, depthAt, dischargeAt, carr
 use Rattle.reach.specs.Grounds.{firstRefusal, recordGrounds, boundaryFits, boundariesFit, kindFits, allTotalsFit, passOr}
 use Rattle.reach.specs.Outcome.{Outcome, outcome}
 use Rattle.reach.specs.Parts.{drawnFrom}
-use Rattle.reach.specs.Ranges.{alone, cutDrawn}
+use Rattle.reach.specs.Ranges.{undrawn}
 use Rattle.reach.specs.declared.held.Held.{Held}
 use Rattle.reach.specs.declared.boundary.Boundary.{Boundary}
 use Rattle.reach.specs.declared.boundary.BoundaryPlace.{BoundaryPlace}
@@ -44,11 +45,12 @@ use Rattle.reach.proofs.GroundsLaws.{go-on, stop-at, last-one, further, no-furt
 use Rattle.reach.proofs.OutletLaws.{one-drawn}
 use Rattle.reach.proofs.PartsLaws.{outflow-is}
 use Rattle.reach.proofs.Sound.{Sound, outlets-few, outlet-sound}
-use Rattle.mass.specs.Transport.{massColumns, movedOutlet, movedOutlets}
-use Rattle.mass.specs.Ranges.{Ready, movedMass}
-use Rattle.transport.specs.Calls.{massColumnsOf, withMass, ledgerWith, transportOutlets, transportHeld, afterTransport}
+use Rattle.mass.specs.Transport.{massColumns, outletShare, movedOutlet, movedOutlets}
+use Rattle.mass.specs.Ranges.{Ready, Gained, gains, movedMass}
+use Rattle.mass.proofs.GainsLaws.{gained-none, taken-same}
+use Rattle.transport.specs.Calls.{enteringLeft, enteringRight, massColumnsOf, withMass, ledgerWith, transportOutlets, transportHeld, afterTransport}
 use Rattle.transport.specs.Ranges.{massColumnsWith, Small}
-use Rattle.transport.proofs.CallsLaws.{crossed-with, ready-entering, moved-entering, outlets-are, small, ledger-is, carried-zero}
+use Rattle.transport.proofs.CallsLaws.{crossed-with, ready-entering, moved-none, gained-entering, taken-entering, shares-moved, outlets-are, small, ledger-is, carried-zero}
 use Rattle.water.specs.Sides.{sideSpeed, cellSide, boundarySide, leftSide, rightSide}
 use Rattle.water.specs.Water.{netAt, wantsFrom, draws, drawOf, newDepth, newDischarge}
 use Rattle.water.specs.Ranges.{fluxMost, flowOf, FlowFits, sideMeets, sidesMeet, granted, grantedDepth, grantedDischarge, Swept}
@@ -378,6 +380,21 @@ module _ (s : Reach) (k : Sound s) (t : ℕ) where
           go true = refl
           go false = outlets-are s k
 
+      -- a step adds no mass to an outlet but by the transport in it
+      step-mass : (n : ℕ) → n < os .count → outletAt (stepOutlets s t) n .mass ≡ outletAt (transportedFirst s t .held .outlets) n .mass
+      unfolding stepOutlets steppedOutlet
+      step-mass n l =
+          let rs = transportedFirst s t .held .outlets in
+          ap (λ (o : Outlet). o .mass) (each-at (steppedOutlet s t) rs (omega (arith, transported-count s t, few)) n (omega (arith, l, transported-count s t)))
+
+      mass-kept : keepsSums s t ≡ true → (n : ℕ) → outletAt (transportedFirst s t .held .outlets) n .mass ≡ outletAt os n .mass
+      unfolding transportedFirst
+      mass-kept p n = rw p refl
+
+      mass-moved : keepsSums s t ≡ false → (n : ℕ) → outletAt (transportedFirst s t .held .outlets) n .mass ≡ outletAt (transportOutlets s) n .mass
+      unfolding transportedFirst afterTransport transportHeld
+      mass-moved p n = rw p refl
+
       -- each outlet with what it has
       draws-when : withDraws (transportedFirst s t .held .outlets) got ≡ stepOutlets s t
       unfolding withDraws outletWith stepOutlets steppedOutlet
@@ -385,55 +402,85 @@ module _ (s : Reach) (k : Sound s) (t : ℕ) where
           let rs = transportedFirst s t .held .outlets in
           each-same _ _ rs (λ n l. ap (λ (x : ℕ). let o = outletAt rs n in record { cell = o .cell; want = o .want; drawn = o .drawn + x; water = o .water + x; mass = o .mass }) (w .gots n (omega (arith, l, transported-count s t))))
 
-      module _ (d : List ℕ) (ed : d ≡ tabulate cellsMost (cutDrawn os)) where
-        with-one : {a b c o : ℕ} → BoundaryMassWhen v (massColumnsWith (s .mass) (s .base) (s .carried) (alone d) (s .held .boundaries)) a b c o → BoundaryMassWhen v (massColumnsOf s) a b c o
-        with-one x = record { transported = λ p. crossed-with s k d ed (x .transported p); kept = x .kept }
+      with-one : {a b c o : ℕ} → BoundaryMassWhen v (massColumnsWith (s .mass) (s .base) (s .carried) undrawn (s .held .boundaries)) a b c o → BoundaryMassWhen v (massColumnsOf s) a b c o
+      with-one x = record { transported = λ p. crossed-with s k (x .transported p); kept = x .kept }
 
-        pub small-when : (a b c o : ℕ) → BoundaryMassWhen v (massColumnsWith (s .mass) (s .base) (s .carried) (alone d) (s .held .boundaries)) a b c o → Small a b c o
-        small-when a b c o y = go v refl
+      pub small-when : (a b c o : ℕ) → BoundaryMassWhen v (massColumnsWith (s .mass) (s .base) (s .carried) undrawn (s .held .boundaries)) a b c o → Small a b c o
+      small-when a b c o y = go v refl
+        where
+          go : (u : Bool) → v ≡ u → Small a b c o
+          go true p = small s k a b c o (with-one y .transported p)
+          go false p =
+              let z = y .kept p in
+              record { left-in = omega (arith, z .0); left-out = omega (arith, z .1); right-in = omega (arith, z .2); right-out = omega (arith, z .3) }
+
+      module _ (a b c o : ℕ) (y : BoundaryMassWhen v (massColumnsWith (s .mass) (s .base) (s .carried) undrawn (s .held .boundaries)) a b c o) where
+        abbrev x : BoundaryMassWhen v (massColumnsOf s) a b c o
+        x = with-one y
+
+        pub ready-when : v ≡ true → Ready (massColumns (s .mass) (s .base) (s .carried) undrawn a c)
+        ready-when p = ready-entering s k (x .transported p .left-in) (x .transported p .right-in)
+
+        none : (l : Ledger) → ledgerWith l 0 0 0 0 ≡ l
+        unfolding ledgerWith withMass
+        none l =
+            let plus : (n : ℕ) → n + 0 ≡ n = λ n. omega arith in
+            rw (plus (l .left .«mass_in»), plus (l .left .«mass_out»), plus (l .right .«mass_in»), plus (l .right .«mass_out»)) refl
+
+        ledger-when : ledgerWith (s .held .ledger) a b c o ≡ transportedFirst s t .held .ledger
+        unfolding transportedFirst afterTransport transportHeld
+        ledger-when = go (keepsSums s t) refl
           where
-            go : (u : Bool) → v ≡ u → Small a b c o
-            go true p = small s k a b c o (with-one y .transported p)
-            go false p =
-                let z = y .kept p in
-                record { left-in = omega (arith, z .0); left-out = omega (arith, z .1); right-in = omega (arith, z .2); right-out = omega (arith, z .3) }
+            go : (u : Bool) → keepsSums s t ≡ u → ledgerWith (s .held .ledger) a b c o ≡ cond u s (afterTransport s) .held .ledger
+            go true p =
+                let z = x .kept (e ∙ ap not p) in
+                rw (z .0, z .1, z .2, z .3) (none (s .held .ledger))
+            go false p = ledger-is s k a b c o (x .transported (e ∙ ap not p))
 
-        module _ (a b c o : ℕ) (y : BoundaryMassWhen v (massColumnsWith (s .mass) (s .base) (s .carried) (alone d) (s .held .boundaries)) a b c o) where
-          abbrev x : BoundaryMassWhen v (massColumnsOf s) a b c o
-          x = with-one y
+        -- all that is held after the step
+        pub held-after : (first last : ℤ) → first ≡ netAt s t 0 → last ≡ netAt s t (cells s)
+            → withTotals (withBoundaryWater (ledgerWith (s .held .ledger) a b c o) first last) (withDraws (cond v (movedOutlets (massColumns (s .mass) (s .base) (s .carried) (drawnFrom os) 0 0) os) os) got) (s .held) ≡ stepHeld s t
+        unfolding stepHeld stepLedger
+        held-after first last p q = rw (p, q, ledger-when, outlets-when, draws-when) refl
 
-          pub ready-when : v ≡ true → Ready (massColumns (s .mass) (s .base) (s .carried) (alone d) a c)
-          ready-when p = ready-entering s k d ed (x .transported p .left-in) (x .transported p .right-in)
+        -- the column after the transport, from which the outlets' part is not taken yet
+        abbrev undrawnMass : List ℕ
+        undrawnMass = cond v (movedMass (massColumns (s .mass) (s .base) (s .carried) undrawn a c)) (s .mass)
 
-          none : (l : Ledger) → ledgerWith l 0 0 0 0 ≡ l
-          unfolding ledgerWith withMass
-          none l =
-              let plus : (n : ℕ) → n + 0 ≡ n = λ n. omega arith in
-              rw (plus (l .left .«mass_in»), plus (l .left .«mass_out»), plus (l .right .«mass_in»), plus (l .right .«mass_out»)) refl
+        -- without outlets it is all
+        pub mass-none : os .count ≡ 0 → undrawnMass ≡ afterStep s t F .mass
+        unfolding afterStep transportedFirst afterTransport
+        mass-none none = rw e (go (keepsSums s t) refl)
+          where
+            go : (u : Bool) → keepsSums s t ≡ u → cond (not u) (movedMass (massColumns (s .mass) (s .base) (s .carried) undrawn a c)) (s .mass) ≡ cond u s (afterTransport s) .mass
+            go true p = refl
+            go false p = let z = x .transported (e ∙ ap not p) in moved-none s k (z .left-in) (z .right-in) none
 
-          ledger-when : ledgerWith (s .held .ledger) a b c o ≡ transportedFirst s t .held .ledger
-          unfolding transportedFirst afterTransport transportHeld
-          ledger-when = go (keepsSums s t) refl
-            where
-              go : (u : Bool) → keepsSums s t ≡ u → ledgerWith (s .held .ledger) a b c o ≡ cond u s (afterTransport s) .held .ledger
-              go true p =
-                  let z = x .kept (e ∙ ap not p) in
-                  rw (z .0, z .1, z .2, z .3) (none (s .held .ledger))
-              go false p = ledger-is s k a b c o (x .transported (e ∙ ap not p))
-
-          -- all that is held after the step
-          pub held-after : (first last : ℤ) → first ≡ netAt s t 0 → last ≡ netAt s t (cells s)
-              → withTotals (withBoundaryWater (ledgerWith (s .held .ledger) a b c o) first last) (withDraws (cond v (movedOutlets (massColumns (s .mass) (s .base) (s .carried) (drawnFrom os) 0 0) os) os) got) (s .held) ≡ stepHeld s t
-          unfolding stepHeld stepLedger
-          held-after first last p q = rw (p, q, ledger-when, outlets-when, draws-when) refl
-
-          pub mass-when : cond v (movedMass (massColumns (s .mass) (s .base) (s .carried) (alone d) a c)) (s .mass) ≡ afterStep s t F .mass
+        -- with outlets their part is taken off it: nothing where the sums are kept
+        module _ (column : List ℕ) (is : column ≡ undrawnMass) where
+          by-test : (P : List ℕ → Type 0)
+              → (column ≡ s .mass → ((n : ℕ) → n < os .count → outletAt (stepOutlets s t) n .mass ≡ outletAt os n .mass) → P (s .mass))
+              → ((a c : ℕ) → a ≡ enteringLeft s → c ≡ enteringRight s → column ≡ movedMass (massColumns (s .mass) (s .base) (s .carried) undrawn a c)
+              → ((n : ℕ) → n < os .count → outletAt (stepOutlets s t) n .mass ≡ outletAt os n .mass + outletShare (massColumnsOf s) (outletAt os n .cell) n) → P (movedMass (massColumnsOf s)))
+              → P (afterStep s t F .mass)
           unfolding afterStep transportedFirst afterTransport
-          mass-when = rw e (go (keepsSums s t) refl)
+          by-test P stays moves = go (keepsSums s t) refl
             where
-              go : (u : Bool) → keepsSums s t ≡ u → cond (not u) (movedMass (massColumns (s .mass) (s .base) (s .carried) (alone d) a c)) (s .mass) ≡ cond u s (afterTransport s) .mass
-              go true p = refl
-              go false p = let z = x .transported (e ∙ ap not p) in moved-entering s k d ed (z .left-in) (z .right-in)
+              go : (u : Bool) → keepsSums s t ≡ u → P (cond u s (afterTransport s) .mass)
+              go true p = stays (is ∙ rw (e, p) refl) (λ n l. step-mass n l ∙ mass-kept p n)
+              go false p =
+                  let z = x .transported (e ∙ ap not p) in
+                  moves a c (z .left-in) (z .right-in) (is ∙ rw (e, p) refl) (λ n l. step-mass n l ∙ mass-moved p n ∙ shares-moved s k n l)
+
+          pub gained-when : Gained column os (stepOutlets s t)
+          gained-when = by-test (λ (l : List ℕ). Gained column os (stepOutlets s t))
+              (λ f same. gained-none column os (stepOutlets s t) same few (omega (arith, ap length f, k .masses, k .few)) (λ n l. omega (arith, inside n l, ap length f, k .masses)))
+              (λ a c p q f shared. gained-entering s k p q (stepOutlets s t) shared column f)
+
+          pub taken-when : tabulate (length column) (λ i. getD column i 0 - gains os (stepOutlets s t) i) ≡ afterStep s t F .mass
+          taken-when = by-test (λ (l : List ℕ). tabulate (length column) (λ i. getD column i 0 - gains os (stepOutlets s t) i) ≡ l)
+              (λ f same. taken-same column os (stepOutlets s t) same ∙ f)
+              (λ a c p q f shared. taken-entering s k p q (stepOutlets s t) shared column f)
 
       pub base-when : cond v (s .depth) (s .base) ≡ afterStep s t F .base
       unfolding afterStep transportedFirst afterTransport

@@ -11,7 +11,7 @@ ghost use Rattle.friction.specs.Friction.{stricklerFits};
 ghost use Rattle.reach.specs.Reach.{reachOf, came, withTotals};
 ghost use Rattle.reach.specs.Parts.{drawnFrom};
 ghost use Rattle.reach.specs.Limits.{cellsMost};
-ghost use Rattle.reach.specs.Ranges.{alone, cutDrawn};
+ghost use Rattle.reach.specs.Ranges.{undrawn};
 ghost use Rattle.reach.specs.Grounds.{firstRefusal, recordGrounds, ledgerFits, numberOf, passOr};
 ghost use Rattle.mass.specs.Transport.{massColumns, movedOutlets};
 ghost use Rattle.mass.specs.Ranges.{Ready, OutletsReady};
@@ -31,11 +31,12 @@ use super::transporting::keeps_sums;
 use super::transporting::move_outlets_when;
 use super::transporting::transport_when;
 use friction::strickler_fits;
+use mass::outlets::take_gains;
 use numbers::columns::add_column;
 use numbers::columns::copy_first;
 use numbers::columns::copy_first_signed;
 use reach::cells::CELLS_MOST;
-use reach::check_record_with;
+use reach::check_record;
 use reach::held::Held;
 use reach::refusal::Check;
 use sweeping::sweep;
@@ -141,24 +142,23 @@ fn book(
     mass: &[u64],
     base: &[u64],
     carried: &[i64],
-    drawn: &[u64],
     held: Held,
     got: [u64; 32],
     first: i64,
     last: i64,
 ) -> Booked
-    requires { ⌜ Ready (massColumnsWith (now mass) (now base) (now carried) (alone (now drawn)) (held .boundaries)) ⌝ }
-    requires { ⌜ ((1 ≤ length (now mass)) × (length (now mass) ≤ length (now drawn))) × OutletsReady (now mass) (now base) (now carried) (held .outlets) ⌝ }
-    requires { ⌜ ((a b c d : ℕ) → BoundaryMassWhen transports (massColumnsWith (now mass) (now base) (now carried) (alone (now drawn)) (held .boundaries)) a b c d → Small a b c d) ⌝ }
+    requires { ⌜ Ready (massColumnsWith (now mass) (now base) (now carried) undrawn (held .boundaries)) ⌝ }
+    requires { ⌜ (1 ≤ length (now mass)) × OutletsReady (now mass) (now base) (now carried) (held .outlets) ⌝ }
+    requires { ⌜ ((a b c d : ℕ) → BoundaryMassWhen transports (massColumnsWith (now mass) (now base) (now carried) undrawn (held .boundaries)) a b c d → Small a b c d) ⌝ }
     requires { ⌜ Room (held .outlets) got × Room (cond transports (movedOutlets (massColumns (now mass) (now base) (now carried) (drawnFrom (held .outlets)) 0 0) (held .outlets)) (held .outlets)) got ⌝ }
     requires { ⌜ (ledgerFits (held .ledger) ≡ true) × ((natAbs first ≤ fluxMost) × (natAbs last ≤ fluxMost)) ⌝ }
-    ensures { λ r. ⌜ BoundaryMassWhen transports (massColumnsWith (now (mass .entry)) (now (base .entry)) (now (carried .entry)) (alone (now (drawn .entry))) (held .boundaries)) (r .crossed .«left_in») (r .crossed .«left_out») (r .crossed .«right_in») (r .crossed .«right_out») ⌝ }
+    ensures { λ r. ⌜ BoundaryMassWhen transports (massColumnsWith (now (mass .entry)) (now (base .entry)) (now (carried .entry)) undrawn (held .boundaries)) (r .crossed .«left_in») (r .crossed .«left_out») (r .crossed .«right_in») (r .crossed .«right_out») ⌝ }
     ensures { λ r. ⌜ r .held ≡ withTotals (withBoundaryWater (ledgerWith (held .ledger) (r .crossed .«left_in») (r .crossed .«left_out») (r .crossed .«right_in») (r .crossed .«right_out»)) first last) (withDraws (cond transports (movedOutlets (massColumns (now (mass .entry)) (now (base .entry)) (now (carried .entry)) (drawnFrom (held .outlets)) 0 0) (held .outlets)) (held .outlets)) got) held ⌝ }
 {
     let boundaries = held.boundaries;
     let old = held.ledger;
     let before = held.outlets;
-    let crossed = boundary_mass_when(transports, mass, base, carried, drawn, boundaries);
+    let crossed = boundary_mass_when(transports, mass, base, carried, boundaries);
     let ledger = enter_step(old, crossed, first, last);
     let moved = move_outlets_when(transports, mass, base, carried, before);
     let outlets = draw(moved, got);
@@ -185,7 +185,6 @@ fn complete(
     held: Held,
     t: u64,
     f: u64,
-    drawn: &[u64],
     net: &[i64],
     new_depth: &[u64],
     new_discharge: &[i64],
@@ -194,22 +193,11 @@ fn complete(
     requires { ⌜ firstRefusal (recordGrounds (reachOf (now bed) (now depth) (now discharge) (now mass) (now base) (now carried) x held) (held .boundaries)) ≡ Pass ⌝ }
     requires { ⌜ StepPasses (reachOf (now bed) (now depth) (now discharge) (now mass) (now base) (now carried) x held) t f ⌝ }
     requires { ⌜ StepFound (reachOf (now bed) (now depth) (now discharge) (now mass) (now base) (now carried) x held) t f (now net) (now «new_depth») (now «new_discharge») got ⌝ }
-    requires { ⌜ now drawn ≡ tabulate cellsMost (cutDrawn (held .outlets)) ⌝ }
     ensures { λ r. ⌜ StepCameTo (came bed depth discharge mass base carried x held) t f r (now (depth .exit)) (now (discharge .exit)) (now (mass .exit)) (now (base .exit)) (now (carried .exit)) ⌝ }
 {
     let n = bed.len();
     let transports = !keeps_sums(n, carried, net, new_depth);
-    let booked = book(
-        transports,
-        mass,
-        base,
-        carried,
-        drawn,
-        held,
-        got,
-        net[0],
-        net[n],
-    );
+    let booked = book(transports, mass, base, carried, held, got, net[0], net[n]);
     let after = booked.held;
     let crossed = booked.crossed;
     let Check::Pass = check_room(after) else {
@@ -221,11 +209,20 @@ fn complete(
         mass,
         base,
         carried,
-        drawn,
         crossed.left_in,
         crossed.right_in,
     );
     write_step(depth, discharge, carried, net, new_depth, new_discharge);
+    if held.outlets.count == 0 {
+        return StepAnswer {
+            refusal: 0,
+            held: after,
+            transported: transports,
+        };
+    }
+    let old = held.outlets;
+    let new = after.outlets;
+    take_gains(mass, old, new);
     StepAnswer {
         refusal: 0,
         held: after,
@@ -233,7 +230,7 @@ fn complete(
     }
 }
 
-// Grounds 11 and 12, and the step itself, on a record, a time and a coefficient that stood those before. `drawn` is what the outlets of each cell have drawn together.
+// Grounds 11 and 12, and the step itself, on a record, a time and a coefficient that stood those before.
 fn advance(
     bed: &[i64],
     depth: &mut [u64],
@@ -245,11 +242,9 @@ fn advance(
     held: Held,
     t: u64,
     f: u64,
-    drawn: &[u64],
 ) -> StepAnswer
     requires { ⌜ firstRefusal (recordGrounds (reachOf (now bed) (now depth) (now discharge) (now mass) (now base) (now carried) x held) (held .boundaries)) ≡ Pass ⌝ }
     requires { ⌜ (timeFits t ≡ true) × (stricklerFits f ≡ true) ⌝ }
-    requires { ⌜ now drawn ≡ tabulate cellsMost (cutDrawn (held .outlets)) ⌝ }
     ensures { λ r. ⌜ StepCameTo (came bed depth discharge mass base carried x held) t f r (now (depth .exit)) (now (discharge .exit)) (now (mass .exit)) (now (base .exit)) (now (carried .exit)) ⌝ }
 {
     let boundaries = held.boundaries;
@@ -289,7 +284,6 @@ fn advance(
         held,
         t,
         f,
-        drawn,
         &net,
         &new_depth,
         &new_discharge,
@@ -313,8 +307,7 @@ pub fn step(
     ensures { λ r. ⌜ StepCameTo (came bed depth discharge mass base carried x held) t f r (now (depth .exit)) (now (discharge .exit)) (now (mass .exit)) (now (base .exit)) (now (carried .exit)) ⌝ }
 {
     let boundaries = held.boundaries;
-    let mut drawn = [0u64; CELLS_MOST];
-    let checked = check_record_with(
+    let checked = check_record(
         bed,
         depth,
         discharge,
@@ -324,7 +317,6 @@ pub fn step(
         x,
         held,
         boundaries,
-        &mut drawn,
     );
     let Check::Pass = checked else {
         return refused(checked, held);
@@ -335,17 +327,5 @@ pub fn step(
     let Check::Pass = check_strickler(f) else {
         return stopped(17, held);
     };
-    advance(
-        bed,
-        depth,
-        discharge,
-        mass,
-        base,
-        carried,
-        x,
-        held,
-        t,
-        f,
-        &drawn,
-    )
+    advance(bed, depth, discharge, mass, base, carried, x, held, t, f)
 }

@@ -7,7 +7,7 @@ ghost use lib.IntN.{pos, negℤ, natAbs};
 ghost use lib.ListN.{length, replicate};
 ghost use Rattle.numbers.specs.Signed.{positive};
 ghost use Rattle.reach.specs.Parts.{drawnFrom};
-ghost use Rattle.reach.specs.Ranges.{alone};
+ghost use Rattle.reach.specs.Ranges.{undrawn};
 ghost use Rattle.mass.specs.Transport.{massColumns, movedOutlets};
 ghost use Rattle.mass.specs.Ranges.{Ready, OutletsReady, movedMass};
 ghost use Rattle.transport.specs.Ranges.{massColumnsWith};
@@ -56,12 +56,11 @@ pub fn boundary_mass_when(
     mass: &[u64],
     base: &[u64],
     carried: &[i64],
-    drawn: &[u64],
     boundaries: [Boundary; 2],
 ) -> BoundaryMass
-    requires { ⌜ Ready (massColumnsWith (now mass) (now base) (now carried) (alone (now drawn)) boundaries) ⌝ }
-    requires { ⌜ (1 ≤ length (now mass)) × (length (now mass) ≤ length (now drawn)) ⌝ }
-    ensures { λ r. ⌜ BoundaryMassWhen transports (massColumnsWith (now (mass .entry)) (now (base .entry)) (now (carried .entry)) (alone (now (drawn .entry))) boundaries) (r .«left_in») (r .«left_out») (r .«right_in») (r .«right_out») ⌝ }
+    requires { ⌜ Ready (massColumnsWith (now mass) (now base) (now carried) undrawn boundaries) ⌝ }
+    requires { ⌜ 1 ≤ length (now mass) ⌝ }
+    ensures { λ r. ⌜ BoundaryMassWhen transports (massColumnsWith (now (mass .entry)) (now (base .entry)) (now (carried .entry)) undrawn boundaries) (r .«left_in») (r .«left_out») (r .«right_in») (r .«right_out») ⌝ }
 {
     if !transports {
         return BoundaryMass {
@@ -71,7 +70,7 @@ pub fn boundary_mass_when(
             right_out: 0,
         };
     }
-    boundary_mass_of(mass, base, carried, drawn, boundaries)
+    boundary_mass_of(mass, base, carried, boundaries)
 }
 
 // The outlets after the transport inside a step
@@ -91,25 +90,24 @@ pub fn move_outlets_when(
     move_outlets(mass, base, carried, outlets)
 }
 
-// The transport inside a step, with the depths from before it
+// The transport inside a step, with the depths from before it, but for what the outlets have
 pub fn transport_when(
     transports: bool,
     depth: &[u64],
     mass: &mut [u64],
     base: &mut [u64],
     carried: &mut [i64],
-    drawn: &[u64],
     left_in: u64,
     right_in: u64,
 )
-    requires { ⌜ (transports ≡ true → Ready (massColumns (now mass) (now base) (now carried) (alone (now drawn)) «left_in» «right_in»)) ⌝ }
-    requires { ⌜ (length (now base) ≡ length (now depth)) × (length (now mass) ≤ length (now drawn)) ⌝ }
-    ensures { λ _. ⌜ now (mass .exit) ≡ cond transports (movedMass (massColumns (now (mass .entry)) (now (base .entry)) (now (carried .entry)) (alone (now (drawn .entry))) «left_in» «right_in»)) (now (mass .entry)) ⌝ }
+    requires { ⌜ (transports ≡ true → Ready (massColumns (now mass) (now base) (now carried) undrawn «left_in» «right_in»)) ⌝ }
+    requires { ⌜ length (now base) ≡ length (now depth) ⌝ }
+    ensures { λ _. ⌜ now (mass .exit) ≡ cond transports (movedMass (massColumns (now (mass .entry)) (now (base .entry)) (now (carried .entry)) undrawn «left_in» «right_in»)) (now (mass .entry)) ⌝ }
     ensures { λ _. ⌜ now (base .exit) ≡ cond transports (now (depth .entry)) (now (base .entry)) ⌝ }
     ensures { λ _. ⌜ now (carried .exit) ≡ cond transports (replicate (length (now (carried .entry))) (pos 0)) (now (carried .entry)) ⌝ }
 {
     if !transports {
         return;
     }
-    commit(depth, mass, base, carried, drawn, left_in, right_in);
+    commit(depth, mass, base, carried, left_in, right_in);
 }

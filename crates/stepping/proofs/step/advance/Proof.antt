@@ -42,12 +42,12 @@ whole : (s : tie.Start) → Sound (reach s)
 whole s = sound (reach s) (s .args .held .boundaries) (s .pre .0)
 
 fine : (s : tie.Start) → Mesh (s .args .t) (s .args .x)
-fine s = mesh (reach s) (whole s) (s .args .t) (s .pre .1 .0 .0)
+fine s = mesh (reach s) (whole s) (s .args .t) (s .pre .1 .0)
 
 -- ---- after the sweep
 
 abbrev entry : tie.After-sweep → tie.Start
-entry c = c .before .before .before .before .before .before .before .before .before .before .before .before .before .before .before
+entry c = c .before .before .before .before .before .before .before .before .before .before .before .before .before .before
 
 -- what is wanted of each cell
 abbrev wants : tie.After-sweep → List ℕ
@@ -98,7 +98,7 @@ slice-aggregate-wants-by-cell c = search needs
 
 wants-by-cell-requires : tie.Need-wants-by-cell-requires
 wants-by-cell-requires c κs =
-    let k = whole (c .before .before .before .before .before .before) in
+    let k = whole (c .before .before .before .before .before) in
     (outlets-few _ _ (k .outlets), ((λ j l. let o = outlet-sound _ _ (k .outlets) j l in (omega (arith, o .cell, k .few), o .want)), zeros 512))
 
 slice-aggregate-sweep : tie.Need-slice-aggregate-sweep
@@ -115,10 +115,10 @@ slice-aggregate-sweep-4 c = search needs
 
 sweep-requires : tie.Need-sweep-requires
 sweep-requires c κs =
-    let s = c .before .before .before .before .before .before .before .before .before .before .before .before .before .before in
+    let s = c .before .before .before .before .before .before .before .before .before .before .before .before .before in
     let k = whole s in
     let n = k .few in
-    ((fine s, water-fits (reach s) k), ((omega (arith, n), (omega (arith, n, wanted-long (reach s) k (s .args .t) _ (c .before .before .before .before .before .before .before .wants-by-cell .ensures)), (omega (arith, n), omega (arith, n)))), strickler-most (s .args .f) (s .pre .1 .0 .1)))
+    ((fine s, water-fits (reach s) k), ((omega (arith, n), (omega (arith, n, wanted-long (reach s) k (s .args .t) _ (c .before .before .before .before .before .before .before .wants-by-cell .ensures)), (omega (arith, n), omega (arith, n)))), strickler-most (s .args .f) (s .pre .1 .1)))
 
 enum-told : tie.Need-enum-told
 enum-told c = search needs
@@ -142,7 +142,7 @@ returns c =
     let a = s .args in
     subst (λ (r : StepAnswer). StepCameTo (reach s) (a .t) (a .f) r (now (a .depth)) (now (a .discharge)) (now (a .mass)) (now (a .base)) (now (a .carried))) (sym (c .stopped .ensures))
     (stayed (reach s) (a .t) (a .f) 11 (omega arith)
-    (stopped-11 (reach s) (a .t) (a .f) (s .pre .0) (s .pre .1 .0 .0) (s .pre .1 .0 .1) (met-same s (refused-by 11 _ _ _ (w .sweep .ensures .0) (c .before .enum-told2 .given .1)))))
+    (stopped-11 (reach s) (a .t) (a .f) (s .pre .0) (s .pre .1 .0) (s .pre .1 .1) (met-same s (refused-by 11 _ _ _ (w .sweep .ensures .0) (c .before .enum-told2 .given .1)))))
 
 -- ground 11 stood
 abbrev swung : tie.After-enum-told → tie.After-sweep
@@ -184,7 +184,7 @@ returns-2 c =
     let a = s .args in
     let f = sym (tested w) ∙ refused-by 12 _ _ _ (c .before .before .before .check-depths .ensures) (c .before .enum-told4 .given .1) in
     subst (λ (r : StepAnswer). StepCameTo (reach s) (a .t) (a .f) r (now (a .depth)) (now (a .discharge)) (now (a .mass)) (now (a .base)) (now (a .carried))) (sym (c .stopped2 .ensures))
-    (stayed (reach s) (a .t) (a .f) 12 (omega arith) (stopped-12 (reach s) (a .t) (a .f) (s .pre .0) (s .pre .1 .0 .0) (s .pre .1 .0 .1) (cfl m) f))
+    (stayed (reach s) (a .t) (a .f) 12 (omega arith) (stopped-12 (reach s) (a .t) (a .f) (s .pre .0) (s .pre .1 .0) (s .pre .1 .1) (cfl m) f))
 
 abbrev told : tie.After-enum-told3 → tie.After-enum-told
 told c = c .before .before .before .before
@@ -226,19 +226,16 @@ complete-requires c κs =
     let found : (i : ℕ) → i < cells r → i < 512 = λ i l. omega (arith, l, k .few) in (
       s .pre .0,
       (
-        record { time = s .pre .1 .0 .0; strickler = s .pre .1 .0 .1; cfl = cfl (told m); deep = deep m },
-        (
-          record {
-            net-long = omega (arith, net-length w, k .few);
-            depth-long = omega (arith, depth-length w, k .few);
-            discharge-long = omega (arith, discharge-length w, k .few);
-            nets = swept w .nets;
-            depths = depths-found w;
-            discharges = discharge-of r k t (wants w) (wanted w) (net w) (given w) (depth w) (discharge w) (swept w) (deep m);
-            gots = got-of r k t (wants w) (wanted w) (net w) (given w) (depth w) (discharge w) (swept w) _ (c .before .before .before .before .before .before .before .before .deal-out .ensures);
-          },
-          s .pre .1 .1,
-        ),
+        record { time = s .pre .1 .0; strickler = s .pre .1 .1; cfl = cfl (told m); deep = deep m },
+        record {
+          net-long = omega (arith, net-length w, k .few);
+          depth-long = omega (arith, depth-length w, k .few);
+          discharge-long = omega (arith, discharge-length w, k .few);
+          nets = swept w .nets;
+          depths = depths-found w;
+          discharges = discharge-of r k t (wants w) (wanted w) (net w) (given w) (depth w) (discharge w) (swept w) (deep m);
+          gots = got-of r k t (wants w) (wanted w) (net w) (given w) (depth w) (discharge w) (swept w) _ (c .before .before .before .before .before .before .before .before .deal-out .ensures);
+        },
       ),
     )
 

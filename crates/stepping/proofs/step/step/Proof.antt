@@ -5,10 +5,6 @@ use denote.Ref.{now}
 use Prim.Native.Nat.{ℕ}
 use native.Mathlib.Omega.{arith}
 use borrow.Author.Needs.{needs}
-use Rattle.numbers.specs.Index.{tabulate}
-use Rattle.numbers.proofs.IndexLaws.{zeros}
-use Rattle.reach.specs.Limits.{cellsMost}
-use Rattle.reach.specs.Ranges.{cutDrawn}
 use Rattle.reach.specs.Reach.{Reach, reachOf}
 use Rattle.reach.specs.Grounds.{firstRefusal, recordGrounds, numberOf}
 use Rattle.reach.specs.declared.refusal.Check.{Check}
@@ -21,8 +17,8 @@ use Rattle.stepping.proofs.StepCallLaws.{stopped-before, stopped-10, st
 use Rattle.stepping.proofs.step.step.Statement.{statement}
 use Rattle.stepping.proofs.step.step.Tie as tie
 
-abbrev entry : tie.After-check-record-with → tie.Start
-entry c = c .before .before .before .before .before .before .before .before .before .before .before
+abbrev entry : tie.After-check-record → tie.Start
+entry c = c .before .before .before .before .before .before .before .before .before .before
 
 abbrev reach : tie.Start → Reach
 reach s =
@@ -35,17 +31,12 @@ as-it-came : (s : tie.Start) (r : StepAnswer) (n : ℕ) → r ≡ stoppedBy n (s
 as-it-came s r n e = subst (λ (r : StepAnswer). StepCameTo (reach s) (s .args .t) (s .args .f) r (now (s .args .depth)) (now (s .args .discharge)) (now (s .args .mass)) (now (s .args .base)) (now (s .args .carried))) (sym e)
 
 checked : (c : tie.After-enum-told) →
-    let s = entry (c .before .before .before) in
-    (firstRefusal (recordGrounds (reach s) (s .args .held .boundaries)) ≡ Pass) × (c .before .before .before .check-record-with .last .1 .1 .1 .1 .1 .1 .1 .1 .1 .0 ≡ tabulate cellsMost (cutDrawn (s .args .held .outlets)))
-checked c =
-    let e = c .before .before .before .check-record-with .ensures in
-    (sym (e .0) ∙ c .enum-told .given .1, e .1 (c .enum-told .given .1))
+    let s = entry (c .before .before) in
+    firstRefusal (recordGrounds (reach s) (s .args .held .boundaries)) ≡ Pass
+checked c = sym (c .before .before .check-record .ensures) ∙ c .enum-told .given .1
 
-slice-aggregate-check-record-with : tie.Need-slice-aggregate-check-record-with
-slice-aggregate-check-record-with c = search needs
-
-check-record-with-requires : tie.Need-check-record-with-requires
-check-record-with-requires c κs = record { long = refl; zeros = zeros 512 }
+check-record-requires : tie.Need-check-record-requires
+check-record-requires c κs = search needs
 
 enum-told : tie.Need-enum-told
 enum-told c = search needs
@@ -73,11 +64,11 @@ same-length-5 c = search needs
 
 returns : tie.Need-returns
 returns c =
-    let k = c .before .before .before .before in
+    let k = c .before .before .before in
     let s = entry k in
     let t = c .before .enum-told2 .given in
     let n = t .0 .0 in
-    let e = sym (k .check-record-with .ensures .0) ∙ t .1 in
+    let e = sym (k .check-record .ensures) ∙ t .1 in
     as-it-came s _ n (c .refused .ensures ∙ ap (λ (k : Check). stoppedBy (numberOf k) (s .args .held)) (t .1))
     (stayed (reach s) (s .args .t) (s .args .f) n (refused-positive (reach s) n e) (stopped-before (reach s) (s .args .t) (s .args .f) n e))
 
@@ -110,10 +101,10 @@ same-length-10 c = search needs
 
 returns-2 : tie.Need-returns-2
 returns-2 c =
-    let s = entry (c .before .before .before .before .before .before .before) in
+    let s = entry (c .before .before .before .before .before .before) in
     as-it-came s _ 10 (c .stopped .ensures)
     (stayed (reach s) (s .args .t) (s .args .f) 10 (omega arith)
-    (stopped-10 (reach s) (s .args .t) (s .args .f) (checked (c .before .before .before .before) .0) (refused-by 10 _ _ _ (c .before .before .before .check-time .ensures) (c .before .enum-told4 .given .1))))
+    (stopped-10 (reach s) (s .args .t) (s .args .f) (checked (c .before .before .before .before)) (refused-by 10 _ _ _ (c .before .before .before .check-time .ensures) (c .before .enum-told4 .given .1))))
 
 check-strickler-requires : tie.Need-check-strickler-requires
 check-strickler-requires c κs = search needs
@@ -143,26 +134,22 @@ same-length-15 : tie.Need-same-length-15
 same-length-15 c = search needs
 
 -- ground 10 stood
-timely : (c : tie.After-enum-told3) → timeFits (entry (c .before .before .before .before .before .before) .args .t) ≡ true
+timely : (c : tie.After-enum-told3) → timeFits (entry (c .before .before .before .before .before) .args .t) ≡ true
 timely c = passed 10 _ _ (c .before .before .check-time .ensures) (c .enum-told3 .given .1)
 
 returns-3 : tie.Need-returns-3
 returns-3 c =
     let m = c .before .before .before .before in
-    let s = entry (m .before .before .before .before .before .before) in
+    let s = entry (m .before .before .before .before .before) in
     as-it-came s _ 17 (c .stopped2 .ensures)
     (stayed (reach s) (s .args .t) (s .args .f) 17 (omega arith)
-    (stopped-17 (reach s) (s .args .t) (s .args .f) (checked (m .before .before .before) .0) (timely m) (refused-by 17 _ _ _ (c .before .before .before .check-strickler .ensures) (c .before .enum-told6 .given .1))))
-
-slice-aggregate-advance : tie.Need-slice-aggregate-advance
-slice-aggregate-advance c = search needs
+    (stopped-17 (reach s) (s .args .t) (s .args .f) (checked (m .before .before .before)) (timely m) (refused-by 17 _ _ _ (c .before .before .before .check-strickler .ensures) (c .before .enum-told6 .given .1))))
 
 advance-requires : tie.Need-advance-requires
 advance-requires c κs =
-    let q = c .before .before .before .before .before .before in
+    let q = c .before .before .before .before .before in
     let m = q .before .before .before in
-    let k = checked (m .before .before .before) in
-    (k .0, ((timely m, passed 17 _ _ (q .before .before .check-strickler .ensures) (q .enum-told5 .given .1)), k .1))
+    (checked (m .before .before .before), (timely m, passed 17 _ _ (q .before .before .check-strickler .ensures) (q .enum-told5 .given .1)))
 
 same-length-16 : tie.Need-same-length-16
 same-length-16 c = search needs
@@ -186,8 +173,7 @@ pub step-spec : {M : Type 1} → statement M
 step-spec =
     tie.close
     (tie.spec
-    slice-aggregate-check-record-with
-    check-record-with-requires
+    check-record-requires
     enum-told
     enum-told-2
     refused-requires
@@ -217,7 +203,6 @@ step-spec =
     same-length-14
     same-length-15
     returns-3
-    slice-aggregate-advance
     advance-requires
     same-length-16
     same-length-17

@@ -8,7 +8,7 @@ use Rattle.stepping.proofs.transporting.boundary_mass_when.Tie as tie
 
 returns : tie.Need-returns
 returns c =
-    let f = not-true (c .before .before .before .before .args .transports) (c .if1 .taken) in
+    let f = not-true (c .before .before .before .args .transports) (c .if1 .taken) in
     record {
       transported = λ e. absurd (true≢false (sym e ∙ f));
       kept = λ e. (refl, refl, refl, refl);
@@ -19,7 +19,7 @@ boundary-mass-of-requires c κs = search needs
 
 returns-2 : tie.Need-returns-2
 returns-2 c =
-    let t = not-false (c .before .before .before .before .before .args .transports) (c .before .if1 .left) in
+    let t = not-false (c .before .before .before .before .args .transports) (c .before .if1 .left) in
     record {
       transported = λ e. c .boundary-mass-of .ensures;
       kept = λ e. absurd (true≢false (sym t ∙ e));

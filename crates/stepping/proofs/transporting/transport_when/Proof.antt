@@ -6,16 +6,16 @@ use borrow.Author.Tests.{not-true, not-false}
 use Rattle.stepping.proofs.transporting.transport_when.Statement.{statement}
 use Rattle.stepping.proofs.transporting.transport_when.Tie as tie
 
-transports : (c : tie.Else1) → c .before .before .before .before .before .args .transports ≡ true
+transports : (c : tie.Else1) → c .before .before .before .before .args .transports ≡ true
 transports c = not-false _ (c .if1 .left)
 
 returns : tie.Need-returns
-returns c = rw (not-true (c .before .before .before .before .before .args .transports) (c .if1 .taken)) (refl, (refl, refl))
+returns c = rw (not-true (c .before .before .before .before .args .transports) (c .if1 .taken)) (refl, (refl, refl))
 
 commit-requires : tie.Need-commit-requires
 commit-requires c κs =
     let k = c .before .before .before in
-    let p = k .before .before .before .before .before .pre in
+    let p = k .before .before .before .before .pre in
     (p .0 (transports k), p .1)
 
 same-length : tie.Need-same-length
