@@ -29,10 +29,6 @@ pub refused-by : (n : ℕ) (t : Bool) (k : Check) (x : ℕ) → k ≡ passOr n t
 refused-by n true k x p q = cc
 refused-by n false k x p q = refl
 
--- a refusal is no pass, whatever a pass would tell
-pub never : {A : Type 0} (n : ℕ) (x y : A) → Refused n ≡ Pass → x ≡ y
-never n x y e = cc
-
 -- ---- grounds in order
 
 went-on : (t : Bool) (x : Check) (n : ℕ) → cond t x (Refused n) ≡ Pass → (t ≡ true) × (x ≡ Pass)

@@ -10,7 +10,7 @@ use lib.Dec.{eqb}
 use lib.IntN.{ℤ, pos}
 use lib.ListN.{length, getD}
 use Rattle.numbers.specs.Index.{allOf, allBelow, sum, sumBelow, tabulate}
-use Rattle.numbers.proofs.IndexLaws.{all-of, all-at, all-below, all-same, by-index, on, only, getD-tabulate, tabulate-same, sum-small, sum-same, sum-part, sum-tabulate}
+use Rattle.numbers.proofs.IndexLaws.{all-of, all-at, all-below, all-same, on, only, getD-tabulate, tabulate-same, sum-small, sum-same, sum-part, sum-tabulate}
 use Rattle.outlet.specs.Outlets.{outletsMost, outletAt, fromCell, eachOutlet}
 use Rattle.outlet.specs.declared.Outlet.{Outlet}
 use Rattle.outlet.specs.declared.Outlets.{Outlets}
@@ -21,7 +21,7 @@ use Rattle.flux.specs.Limits.{depthMost}
 use Rattle.reach.specs.declared.held.Held.{Held}
 use Rattle.reach.specs.Parts.{drawnFrom}
 use Rattle.reach.specs.Grounds.{carriedFits, carriedCellsFit, carriedFit, outletFits, outletsFit, ledgerFits, allTotalsFit}
-use Rattle.reach.specs.Ranges.{CarriedColumns, Clear, alone, undrawn, cutDrawn}
+use Rattle.reach.specs.Ranges.{CarriedColumns, alone, undrawn, cutDrawn}
 use Rattle.reach.proofs.CarriedLaws.{carriedFitsAt}
 use Rattle.reach.proofs.PartsLaws.{outflow-is, sum-single}
 use Rattle.reach.proofs.Sound.{CarriedSound, carried-sound, carried-stands, outlets-few}
@@ -106,10 +106,6 @@ none-total h e = rw e (and-true (ledgerFits (h .ledger)))
 pub none-drawn-from : (h b : List ℕ) (c : List ℤ) (os : Outlets) (left right : ℕ) → os .count ≡ 0 → carriedFit h b c undrawn left right ≡ carriedFit h b c (drawnFrom os) left right
 unfolding carriedFit carriedCellsFit fromCell tabulate
 none-drawn-from h b c os left right e = rw e refl
-
-pub none-cut : (os : Outlets) (d : List ℕ) → os .count ≡ 0 → Clear d → d ≡ tabulate 512 (cutDrawn os)
-unfolding byCell sumBelow
-none-cut os d e z = by-index 512 (cutDrawn os) 0 d (z .long) (λ i l. rw e (z .zeros i))
 
 -- ---- a list whose outlets are replaced, each in its cell
 

@@ -39,11 +39,6 @@ pub record CarriedLengths (h b : List ℕ) (c : List ℤ) (drawn : List ℕ) : T
   pub long : length h ≤ length drawn
   pub drawn-most : (i : ℕ) → i < length h → getD drawn i 0 ≤ 1_000_000_000
 
--- a column of zeros, as long as any column of cells
-pub record Clear (column : List ℕ) : Type 0 where
-  pub long : length column ≡ cellsMost
-  pub zeros : (i : ℕ) → getD column i 0 ≡ 0
-
 -- what is drawn of each cell, as one number
 abbrev pub alone : List ℕ → (i : ℕ) → List ℕ
 alone d i = getD d i 0 ∷ []

@@ -5,13 +5,14 @@ ghost use mathlib.Core.List.{[], _∷_};
 ghost use Prim.Native.Nat.{_≤_, _<_};
 ghost use lib.IntN.{pos, natAbs};
 ghost use lib.ListN.{length, getD};
-ghost use Rattle.numbers.specs.Index.{allOf, tabulate};
+ghost use Rattle.numbers.specs.Index.{allOf};
 ghost use Rattle.flux.specs.Limits.{depthMost};
-ghost use Rattle.reach.specs.Limits.{cellsMost, carriedMost};
+ghost use Rattle.reach.specs.Limits.{carriedMost};
 ghost use Rattle.reach.specs.Grounds.{carriedFits, carriedCellsFit, shutFits, carriedFit, outletsFit, passOr};
-ghost use Rattle.reach.specs.Ranges.{CarriedColumns, CarriedLengths, Clear, alone, cutDrawn};
+ghost use Rattle.reach.specs.Ranges.{CarriedColumns, CarriedLengths, alone};
 ghost use Rattle.reach.specs.Parts.{drawnFrom};
 use super::boundary::WALL;
+use super::cells::CELLS_MOST;
 use super::outlets::drawn_by_cell;
 use super::refusal::Check;
 use numbers::signed::magnitude;
@@ -79,24 +80,22 @@ fn check_carried_cells(depth: &[u64], base: &[u64], carried: &[i64], drawn: &[u6
     Check::Pass
 }
 
-// Ground 8, of a list of outlets that stood ground 16. `drawn`, a column of zeros, is left with what the outlets of each cell have drawn together.
+// Ground 8, of a list of outlets that stood ground 16.
 pub fn check_carried(
     depth: &[u64],
     base: &[u64],
     carried: &[i64],
     outlets: Outlets,
-    drawn: &mut [u64],
     left_kind: u32,
     right_kind: u32,
 ) -> Check
     requires { ⌜ CarriedColumns (now depth) (now base) (now carried) ⌝ }
     requires { ⌜ outletsFit (length (now depth)) outlets ≡ true ⌝ }
-    requires { ⌜ Clear (now drawn) ⌝ }
     ensures { λ r. ⌜ r ≡ passOr 8 (carriedFit (now (depth .entry)) (now (base .entry)) (now (carried .entry)) (drawnFrom outlets) «left_kind» «right_kind») ⌝ }
-    ensures { λ _. ⌜ now (drawn .exit) ≡ tabulate cellsMost (cutDrawn outlets) ⌝ }
 {
-    drawn_by_cell(outlets, drawn);
-    let Check::Pass = check_carried_cells(depth, base, carried, drawn) else {
+    let mut drawn = [0u64; CELLS_MOST];
+    drawn_by_cell(outlets, &mut drawn);
+    let Check::Pass = check_carried_cells(depth, base, carried, &drawn) else {
         return Check::Refused(8);
     };
     if !walls_fit(carried, depth.len(), left_kind, right_kind) {

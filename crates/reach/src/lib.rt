@@ -13,16 +13,11 @@ pub mod plain;
 pub mod refusal;
 
 ghost use mathlib.Core.Path.{_≡_};
-ghost use Rattle.numbers.specs.Index.{tabulate};
-ghost use Rattle.reach.specs.Limits.{cellsMost};
-ghost use Rattle.reach.specs.Ranges.{Clear, cutDrawn};
-ghost use Rattle.reach.specs.declared.refusal.Check.the-variants.{Pass};
 ghost use Rattle.reach.specs.Reach.{came};
 ghost use Rattle.reach.specs.Grounds.{recordGrounds, firstRefusal};
 use boundary::Boundary;
 use boundary::check_boundaries;
 use carried::check_carried;
-use cells::CELLS_MOST;
 use cells::check_cell_length;
 use cells::check_cells;
 use cells::check_lengths;
@@ -33,8 +28,8 @@ use plain::check_plain;
 use refusal::Check;
 
 // Grounds 4 to 7, 16, 8 and 9: the checking order of every call on a record. A call that is given a new pair of boundaries has it checked as `given`; any other gives the pair
-// that it holds. `drawn`, a column of zeros, is left with what the outlets of each cell have drawn together.
-pub fn check_record_with(
+// that it holds.
+pub fn check_record(
     bed: &[i64],
     depth: &[u64],
     discharge: &[i64],
@@ -44,11 +39,8 @@ pub fn check_record_with(
     x: u64,
     held: Held,
     given: [Boundary; 2],
-    drawn: &mut [u64],
 ) -> Check
-    requires { ⌜ Clear (now drawn) ⌝ }
     ensures { λ r. ⌜ r ≡ firstRefusal (recordGrounds (came bed depth discharge mass base carried x held) given) ⌝ }
-    ensures { λ r. ⌜ (r ≡ Pass → now (drawn .exit) ≡ tabulate cellsMost (cutDrawn (held .outlets))) ⌝ }
 {
     let Check::Pass = check_lengths(bed, depth, discharge, mass, base, carried) else {
         return Check::Refused(4);
@@ -88,7 +80,6 @@ pub fn check_record_with(
         base,
         carried,
         outlets,
-        drawn,
         held.boundaries[0].kind,
         held.boundaries[1].kind,
     ) else {
@@ -98,33 +89,4 @@ pub fn check_record_with(
         return Check::Refused(9);
     };
     Check::Pass
-}
-
-// The same, for a call that does not ask what was drawn
-pub fn check_record(
-    bed: &[i64],
-    depth: &[u64],
-    discharge: &[i64],
-    mass: &[u64],
-    base: &[u64],
-    carried: &[i64],
-    x: u64,
-    held: Held,
-    given: [Boundary; 2],
-) -> Check
-    ensures { λ r. ⌜ r ≡ firstRefusal (recordGrounds (came bed depth discharge mass base carried x held) given) ⌝ }
-{
-    let mut drawn = [0u64; CELLS_MOST];
-    check_record_with(
-        bed,
-        depth,
-        discharge,
-        mass,
-        base,
-        carried,
-        x,
-        held,
-        given,
-        &mut drawn,
-    )
 }

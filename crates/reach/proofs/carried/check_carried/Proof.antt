@@ -6,7 +6,7 @@ use native.Mathlib.Omega.{arith}
 use denote.Ref.{now}
 use lib.ListN.{length}
 use Rattle.numbers.specs.Index.{tabulate}
-use Rattle.numbers.proofs.IndexLaws.{length-tabulate, on, off}
+use Rattle.numbers.proofs.IndexLaws.{zeros, length-tabulate, on, off}
 use Rattle.reach.specs.Grounds.{carriedFit}
 use Rattle.reach.specs.Parts.{drawnFrom}
 use Rattle.reach.specs.Ranges.{alone, cutDrawn}
@@ -18,40 +18,45 @@ use borrow.Author.Tests.{not-true, not-false}
 use Rattle.reach.proofs.carried.check_carried.Statement.{statement}
 use Rattle.reach.proofs.carried.check_carried.Tie as tie
 
-abbrev start : tie.After-drawn-by-cell → tie.Start
-start c = c .before .before .before .before .before
+slice-aggregate-drawn-by-cell : tie.Need-slice-aggregate-drawn-by-cell
+slice-aggregate-drawn-by-cell c = search needs
 
--- the column as it is left
+drawn-by-cell-requires : tie.Need-drawn-by-cell-requires
+drawn-by-cell-requires c κs =
+    let s = c .before .before .before in
+    let f = s .pre .1 in
+    (outlets-few _ _ f, ((λ k l. omega (arith, outlet-sound _ _ f k l .cell, s .pre .0 .few)), zeros 512))
+
+abbrev start : tie.After-drawn-by-cell → tie.Start
+start c = c .before .before .before .before
+
+-- the column, added up
 abbrev column : tie.After-drawn-by-cell → List ℕ
 column c = c .drawn-by-cell .last .1 .0
 
 summed : (c : tie.After-drawn-by-cell) → column c ≡ tabulate 512 (cutDrawn (start c .args .outlets))
-summed c = let s = start c in c .drawn-by-cell .ensures ∙ ap (λ (m : ℕ). tabulate m (cutDrawn (s .args .outlets))) (s .pre .1 .1 .long)
+summed c = c .drawn-by-cell .ensures
 
 ground-is : (c : tie.After-drawn-by-cell) →
     (let a = start c .args in
     carriedFit (now (a .depth)) (now (a .base)) (now (a .carried)) (alone (column c)) (a .left-kind) (a .right-kind) ≡ carriedFit (now (a .depth)) (now (a .base)) (now (a .carried)) (drawnFrom (a .outlets)) (a .left-kind) (a .right-kind))
-ground-is c = let s = start c in same-ground _ _ _ (s .args .outlets) _ _ _ (s .pre .0) (s .pre .1 .0) (summed c)
+ground-is c = let s = start c in same-ground _ _ _ (s .args .outlets) _ _ _ (s .pre .0) (s .pre .1) (summed c)
 
 abbrev added : tie.After-check-carried-cells → tie.After-drawn-by-cell
-added c = c .before .before .before .before
+added c = c .before .before .before
 
-drawn-by-cell-requires : tie.Need-drawn-by-cell-requires
-drawn-by-cell-requires c κs =
-    let s = c .before .before .before .before in
-    let f = s .pre .1 .0 in
-    let z = s .pre .1 .1 in
-    (outlets-few _ _ f, ((λ k l. omega (arith, outlet-sound _ _ f k l .cell, s .pre .0 .few, z .long)), z .zeros))
+slice-aggregate-check-carried-cells : tie.Need-slice-aggregate-check-carried-cells
+slice-aggregate-check-carried-cells c = search needs
 
 check-carried-cells-requires : tie.Need-check-carried-cells-requires
 check-carried-cells-requires c κs =
-    let s = start (c .before .before .before) in
-    let d = summed (c .before .before .before) in
+    let s = start (c .before .before) in
+    let d = summed (c .before .before) in
     let k = s .pre .0 in
     record {
       columns = k;
       long = omega (arith, k .few, ap length d ∙ length-tabulate 512 (cutDrawn (s .args .outlets)));
-      drawn-most = λ i l. rw (at-cell (s .args .outlets) _ d i (omega (arith, l, k .few))) (cut-most (s .args .outlets) (outlets-few _ _ (s .pre .1 .0)) i);
+      drawn-most = λ i l. rw (at-cell (s .args .outlets) _ d i (omega (arith, l, k .few))) (cut-most (s .args .outlets) (outlets-few _ _ (s .pre .1)) i);
     }
 
 enum-told : tie.Need-enum-told
@@ -60,50 +65,40 @@ enum-told c = search needs
 enum-told-2 : tie.Need-enum-told-2
 enum-told-2 c = search needs
 
-same-length : tie.Need-same-length
-same-length c = search needs
-
 returns : tie.Need-returns
 unfolding carriedFit
 returns c =
     let k = c .before .before in
-    (refuses 8 (sym (ground-is (added k)) ∙ off _ _ (refused-by 8 _ _ _ (k .check-carried-cells .ensures) (c .enum-told2 .given .1))), summed (added k))
+    refuses 8 (sym (ground-is (added k)) ∙ off _ _ (refused-by 8 _ _ _ (k .check-carried-cells .ensures) (c .enum-told2 .given .1)))
 
 walls-fit-requires : tie.Need-walls-fit-requires
 walls-fit-requires c κs = search needs
-
-same-length-2 : tie.Need-same-length-2
-same-length-2 c = search needs
 
 returns-2 : tie.Need-returns-2
 unfolding carriedFit
 returns-2 c =
     let w = c .before in
     let k = w .before .before .before in
-    (refuses 8 (sym (ground-is (added k)) ∙ on _ _ (passed 8 _ _ (k .check-carried-cells .ensures) (w .before .enum-told .given .1)) (sym (w .walls-fit .ensures) ∙ not-true _ (c .if1 .taken))), summed (added k))
-
-same-length-3 : tie.Need-same-length-3
-same-length-3 c = search needs
+    refuses 8 (sym (ground-is (added k)) ∙ on _ _ (passed 8 _ _ (k .check-carried-cells .ensures) (w .before .enum-told .given .1)) (sym (w .walls-fit .ensures) ∙ not-true _ (c .if1 .taken)))
 
 returns-3 : tie.Need-returns-3
 unfolding carriedFit
 returns-3 c =
     let w = c .before in
     let k = w .before .before .before in
-    (passes 8 (sym (ground-is (added k)) ∙ on _ _ (passed 8 _ _ (k .check-carried-cells .ensures) (w .before .enum-told .given .1)) (sym (w .walls-fit .ensures) ∙ not-false _ (c .if1 .left))), summed (added k))
+    passes 8 (sym (ground-is (added k)) ∙ on _ _ (passed 8 _ _ (k .check-carried-cells .ensures) (w .before .enum-told .given .1)) (sym (w .walls-fit .ensures) ∙ not-false _ (c .if1 .left)))
 
 pub check-carried-spec : {M : Type 1} → statement M
 check-carried-spec =
     tie.close
     (tie.spec
+    slice-aggregate-drawn-by-cell
     drawn-by-cell-requires
+    slice-aggregate-check-carried-cells
     check-carried-cells-requires
     enum-told
     enum-told-2
-    same-length
     returns
     walls-fit-requires
-    same-length-2
     returns-2
-    same-length-3
     returns-3)
