@@ -10,7 +10,6 @@ ghost use Rattle.flux.specs.Limits.{depthMost};
 ghost use Rattle.friction.specs.Friction.{stricklerFits};
 ghost use Rattle.reach.specs.Reach.{reachOf, came, withTotals};
 ghost use Rattle.reach.specs.Parts.{drawnFrom};
-ghost use Rattle.reach.specs.Limits.{cellsMost};
 ghost use Rattle.reach.specs.Ranges.{undrawn};
 ghost use Rattle.reach.specs.Grounds.{firstRefusal, recordGrounds, ledgerFits, numberOf, passOr};
 ghost use Rattle.mass.specs.Transport.{massColumns, movedOutlets};

@@ -19,7 +19,7 @@ use Rattle.reach.proofs.GroundsLaws.{passed, refused-by}
 use Rattle.reach.proofs.Sound.{Sound, sound, outlets-few, ledger-fits}
 use Rattle.reach.specs.declared.held.Held.{Held}
 use Rattle.mass.specs.Transport.{massColumns}
-use Rattle.mass.specs.Ranges.{gains, movedMass}
+use Rattle.mass.specs.Ranges.{Gained, gains, movedMass}
 use Rattle.transport.proofs.CallsLaws.{ready-with, outlets-ready}
 use Rattle.update.specs.Step.{keepsSums, transportedFirst, stepOutlets, stepHeld, afterStep}
 use Rattle.update.proofs.StepLaws.{step-count}
@@ -276,7 +276,8 @@ take-gains-requires c κs =
     let w = some c in
     let b = told (moved w) in
     let s = start b in
-    rw (outlets-are b) (gained-when (reach s) (whole s) (s .args .t) (s .pre .1 .0 .cfl) _ _ _ _ (found s) _ (transporting (kept b)) _ _ _ _ (b .book .ensures .0) (mass w) (mass-found w))
+    subst (λ (os : Outlets). Gained (mass w) (s .args .held .outlets) os) (sym (outlets-are b))
+    (gained-when (reach s) (whole s) (s .args .t) (s .pre .1 .0 .cfl) _ _ _ _ (found s) _ (transporting (kept b)) _ _ _ _ (b .book .ensures .0) (mass w) (mass-found w))
 
 abbrev took : tie.After-slice-known7 → tie.After-take-gains
 took c = c .before .before
