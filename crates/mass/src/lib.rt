@@ -12,8 +12,8 @@ ghost use Rattle.mass.specs.Ranges.{Giving, ReadyAt, Ready, massMost, mo
 use numbers::signed::left_part;
 use numbers::signed::right_part;
 
-// floor(m·(P+p)/b), given floor(m·P/b). Most interfaces carry water one way only, most cells have no outlet, and a quotient is dear: none is
-// taken for an empty part.
+// floor(m·(P+p)/b), given floor(m·P/b). Most interfaces carry water one way only, and a quotient is dear: none is taken for an empty
+// part.
 pub fn floor_after(m: u64, b: u64, before: u64, part: u64, floor: u64) -> u64
     requires { ⌜ Giving m b (before + part) × (floor ≡ m * before / b) ⌝ }
     ensures { λ r. ⌜ r ≡ m * (before + part) / b ⌝ }
