@@ -1,4 +1,6 @@
 // The CFL condition: how fast a signal runs at each place of a reach, and the greatest time step that it allows.
+#![tactic(auto)]
+
 ghost use Rattle.std.specs.Prelude.{◌≡◌, ◌+◌, ◌≤◌, length, ltb};
 ghost use Rattle.flux.specs.Limits.{depth_most, cell_length_least, cell_length_most};
 ghost use Rattle.flux.specs.Wave.{wave_speed};

@@ -1,4 +1,6 @@
 // The program on standard input and output. What is read and written no contract can say; the text itself is `program`'s.
+#![tactic(auto)]
+
 use program::{INPUT_MOST, program};
 
 // Prints the text for this input.

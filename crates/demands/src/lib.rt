@@ -1,4 +1,6 @@
 // The three demands of the client's letter, in its own sentences, of the delivered functions. Functions without effect ensure them, so that the gate proves each.
+#![tactic(auto)]
+
 ghost use Rattle.demands.specs.Demand1.{AsksNothing, RefusedByTheFirst, StaysAsItCame};
 ghost use Rattle.demands.specs.Limits.{Limits, Lists};
 ghost use Rattle.demands.specs.Demand2.{DigitForDigit, ReadBack, WroteAgain};

@@ -1,4 +1,6 @@
 // A driver that plays a list of calls, encoded in lent memory, through the functions themselves: demand 3 as a program.
+#![tactic(auto)]
+
 ghost use Rattle.std.specs.Prelude.{◌≡◌, ◌≤◌, length, set};
 ghost use Rattle.reach.specs.Reach.{reach_of, came};
 ghost use Rattle.sheet.specs.Opening.{none_held};

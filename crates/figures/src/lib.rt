@@ -1,4 +1,6 @@
 // The starred figures of document 01, with the wave speed of document 02, point 3, and values of its points 4 and 5. Functions ensure them, so that the gate proves the whole table.
+#![tactic(auto)]
+
 ghost use Rattle.std.specs.Prelude.{◌≡◌};
 ghost use Rattle.figures.specs.Figures.{Figures};
 ghost use Rattle.figures.specs.Friction.{FrictionFigure};

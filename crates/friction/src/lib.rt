@@ -1,4 +1,6 @@
 // Friction of the bed (document 02, point 4): what Strickler's term leaves of a discharge.
+#![tactic(auto)]
+
 pub mod table;
 
 ghost use Rattle.std.specs.Prelude.{◌≡◌, ◌+◌, ◌*◌, ◌/◌, ◌≤◌, ◌<◌, min, nat_abs};

@@ -1,4 +1,6 @@
 // Inner functions, the driver and the program's text as C functions, for the comparison tests. Not part of the product.
+#![tactic(auto)]
+
 ghost use Rattle.std.specs.Prelude.{◌≡◌, ◌*◌, ◌≤◌, nat_abs, length};
 ghost use Rattle.std.proofs.Math.IntN.{sub_ℕ};
 ghost use Rattle.flux.specs.Limits.{depth_most, velocity_most, bed_most};

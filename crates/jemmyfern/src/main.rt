@@ -1,4 +1,6 @@
 // Reads a sheet, step count and t from standard input, and prints what came of it (document 01, 'Figures to meet').
+#![tactic(auto)]
+
 fn main() {
     console::run();
 }

@@ -1,5 +1,7 @@
 // The six calls as C functions, the interface of include/jemmyfern.h. Each loads the lent outlets, passes the call on, and writes the outlets back; it states
 // the contract of the call that it passes on, and requires nothing.
+#![tactic(auto)]
+
 pub mod answer;
 
 ghost use Rattle.std.specs.Prelude.{◌≡◌};

@@ -1,4 +1,6 @@
 // Mass moved along the columns of a reach, in place (document 01, 'Settling'), and to its outlets (document 02, point 1).
+#![tactic(auto)]
+
 pub mod outlets;
 
 ghost use Rattle.std.specs.Prelude.{◌≡◌, [], ◌∷◌, ◌+◌, ◌-◌, ◌*◌, ◌/◌, ◌≤◌, ◌<◌, length, get_or};

@@ -17,33 +17,19 @@ pub fn copy_column(to: &mut [u64], from: &[u64])
 }
 
 // Every entry becomes the one of `from` at its place; `from` may be longer.
-pub fn copy_first(to: &mut [u64], from: &[u32])
+pub fn copy_first(to: &mut [u64], from: &[u64])
     requires { length to.old ≤ length from.now }
     ensures { to.new ≡ tabulate (length to.old) (λ i. get_or from.now i 0) }
 {
     let n = to.len();
     let mut i = 0;
     while i < n {
-        to[i] = from[i] as u64;
+        to[i] = from[i];
         i += 1;
     }
 }
 
-// As `copy_first`, of wide numbers that fit narrow ones
-pub fn narrow_first(to: &mut [u32], from: &[u64])
-    requires to_in_bounds { length to.old ≤ length from.now }
-    requires by_index { (i : ℕ) → i < length to.old → get_or from.now i 0 ≤ 4_000_000_000 }
-    ensures { to.new ≡ tabulate (length to.old) (λ i. get_or from.now i 0) }
-{
-    let n = to.len();
-    let mut i = 0;
-    while i < n {
-        to[i] = from[i] as u32;
-        i += 1;
-    }
-}
-
-// As `copy_first`, of signed numbers
+// The same of signed numbers
 pub fn copy_first_signed(to: &mut [i64], from: &[i64])
     requires { length to.old ≤ length from.now }
     ensures { to.new ≡ tabulate (length to.old) (λ i. get_or from.now i (pos 0)) }
@@ -57,9 +43,9 @@ pub fn copy_first_signed(to: &mut [i64], from: &[i64])
 }
 
 // Every entry grows by the one of `by` at its place; `by` may be longer.
-pub fn add_column(to: &mut [i64], by: &[i32])
+pub fn add_column(to: &mut [i64], by: &[i64])
     requires to_in_bounds { length to.old ≤ length by.now }
-    requires by_index { (i : ℕ) → i < length to.old → nat_abs (get_or to.old i (pos 0)) ≤ 1_000_000_000 }
+    requires by_index { (i : ℕ) → i < length to.old → (nat_abs (get_or to.old i (pos 0)) ≤ 1_000_000_000) × (nat_abs (get_or by.now i (pos 0)) ≤ 1_000_000_000) }
     ensures { to.new ≡ tabulate (length to.old) (λ i. get_or to.old i (pos 0) +ℤ get_or by.now i (pos 0)) }
 {
     let n = to.len();

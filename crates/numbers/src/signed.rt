@@ -58,10 +58,10 @@ pub fn excess(x: u64, n: u64) -> u64
     if n < x { x - n } else { 0 }
 }
 
-// y + z, of a y far from the ends of its type
-pub fn sum_of(y: i64, z: i32) -> i64
-    requires { nat_abs y ≤ 1_000_000_000 }
+// y + z of numbers far from the ends of their type
+pub fn sum_of(y: i64, z: i64) -> i64
+    requires { (nat_abs y ≤ 1_000_000_000) × (nat_abs z ≤ 1_000_000_000) }
     ensures { result ≡ y +ℤ z }
 {
-    y + z as i64
+    y + z
 }

@@ -1,4 +1,6 @@
 // Outlets along the reach (document 02, point 1), and the list of them that a caller lends.
+#![tactic(auto)]
+
 pub mod clearing;
 
 ghost use Rattle.std.specs.Prelude.{◌≡◌, ◌<◌, length, get_or, set};

@@ -1,4 +1,6 @@
 // What the program does with its input: it opens, steps and transports.
+#![tactic(auto)]
+
 ghost use Rattle.std.specs.Prelude.{◌≡◌};
 ghost use Rattle.reach.specs.Reach.{came};
 ghost use Rattle.reach.specs.Grounds.{pass_or};

@@ -1,4 +1,6 @@
 // A call of the list, as it stands in lent memory, played through its function.
+#![tactic(auto)]
+
 pub mod call;
 
 use reach::held::Held;

@@ -1,4 +1,6 @@
 // The program of document 01 as a function on bytes: its input, and the text that it prints.
+#![tactic(auto)]
+
 ghost use Rattle.std.specs.Prelude.{◌≡◌, ◌-◌, ◌/◌, ◌≤◌, length};
 ghost use Rattle.reach.specs.Limits.{cells_most};
 ghost use Rattle.reach.specs.Grounds.{pass_or};

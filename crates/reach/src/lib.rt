@@ -3,6 +3,8 @@
 //
 // A record is lent as six columns: bed level z, depth h, discharge q, mass m and base depth b of each cell, and carried water c of each
 // interface. With them travel the cell length X, both boundaries as one value, the ledger and the outlets.
+#![tactic(auto)]
+
 pub mod boundary;
 pub mod carried;
 pub mod cells;

@@ -1,4 +1,6 @@
 // The text that the program prints, put into a buffer from `at` on.
+#![tactic(auto)]
+
 ghost use Rattle.std.specs.Prelude.{◌≡◌, ◌+◌, ◌*◌, ◌≤◌, length};
 ghost use Rattle.text.specs.Text.{Put};
 ghost use Rattle.report.specs.Report.{spaced, cell_line, cell_lines, totals_text, columns_text, ledger_text, report_text, refused_text};

@@ -6,9 +6,9 @@ use mathlib.Core.List.{List}
 use Prim.Native.Nat.{ℕ, zero, suc, ◌+◌, ◌-◌, ◌*◌, ◌≤◌, ◌<◌}
 use native.Mathlib.Numerals.{add-one}
 use native.Mathlib.Omega.{arith}
-use borrow.Author.Tests.{leb-true, le-leb, le-ltb, lt-ltb, ne_eqb}
+use borrow.Author.Tests.{leb-true, le-leb, lt-ltb, ne_eqb}
 use lib.Dec.{leb, ltb, eqb}
-use lib.IntN.{ℤ, pos, negsuc, ◌+ℤ◌, ◌-ℤ◌, neg_ℤ, nat_abs}
+use lib.IntN.{ℤ, pos, negsuc, ◌+ℤ◌, nat_abs}
 use lib.Signed.{le_z}
 use lib.ListN.{length, get_or, replicate, length-replicate}
 use Rattle.numbers.specs.Index.{all_below, tabulate, sum}
@@ -16,7 +16,7 @@ use Rattle.numbers.specs.Deal.{dealt}
 use Rattle.numbers.specs.Signed.{positive}
 use Rattle.numbers.proofs.IndexLaws.{and_both, and_left, and_right, all_of_lem, all_at, all_below_lem, all_same, tabulate_same, get_or_tabulate, length_tabulate}
 use Rattle.numbers.proofs.SearchLaws.{by_less}
-use Rattle.numbers.proofs.SignedLaws.{abs_neg, add_cross, minus_cross, pos_cross}
+use Rattle.numbers.proofs.SignedLaws.{abs_neg}
 use Rattle.outlet.specs.Outlets.{outlets_most, want_most, outlet_at}
 use Rattle.outlet.specs.declared.Outlet.{Outlet}
 use Rattle.outlet.specs.declared.Outlets.{Outlets}
@@ -52,15 +52,15 @@ use Rattle.transport.specs.Calls.{entering_left, entering_right, mass_columns_of
 use Rattle.transport.specs.Ranges.{mass_columns_with, Small}
 use Rattle.transport.proofs.CallsLaws.{crossed_with, ready_entering, moved_none, gained_entering, taken_entering, shares_moved, outlets_are, small, ledger_is, carried_zero}
 use Rattle.water.specs.Sides.{side_speed, cell_side, boundary_side, left_side, right_side}
-use Rattle.water.specs.Water.{net_at, wants_from, draws, draw_of, undrawn_depth, new_depth, new_discharge}
+use Rattle.water.specs.Water.{net_at, wants_from, draws, draw_of, new_depth, new_discharge}
 use Rattle.water.specs.Ranges.{flux_most, flow_of, FlowFits, side_meets, sides_meet, granted, granted_depth, granted_discharge, Swept}
 use Rattle.water.proofs.WaterLaws.{right_side_cell, right_side_end, net_small, granted_is, depth_is, discharge_is, draws_dealt, draw_most}
 use Rattle.timestep.specs.GreatestStep.{boundary_speed, left_speed, right_speed, place_speed}
 use Rattle.stepping.specs.declared.step.StepAnswer.{StepAnswer}
-use Rattle.update.proofs.StepLaws.{by_step, depth_not_negative, transported_count, water_fits as outlet-water-fits, each_totals, kept_by_depth}
+use Rattle.update.proofs.StepLaws.{by_step, transported_count, water_fits as outlet-water-fits, each_totals, kept_by_depth}
 use Rattle.update.specs.Step.{summed, keeps_sums, transported_first, with_boundary_water, step_ledger, stepped_outlet, step_outlets, step_held, after_step, time_fits, depths_fit, step_grounds, step, transports}
 use Rattle.stepping.specs.StepCall.{stopped_by, StepCameTo}
-use Rattle.stepping.specs.Ranges.{Summable, sums_kept, BoundaryMassWhen, given_at, given_column, Told, outlet_with, with_draws, Room, StepFound}
+use Rattle.stepping.specs.Ranges.{Summable, sums_kept, BoundaryMassWhen, outlet_with, with_draws, Room, StepFound}
 
 -- ---- what a sound record owes the sweep
 
@@ -134,23 +134,6 @@ none_drawn_lem s n = omega arith
 same_water : (s : Reach) (n : ℕ) → (outlet_at s.held.outlets n).water ≤ total_most → (moved_outlet (mass_columns_of s) s.held.outlets n).water ≤ total_most
 unfolding moved_outlet
 same_water s n l = l
-
--- what was given is the depth before and what came, less what left and the depth after, where that is not below 0
-given_back : (h : ℕ) (y z : ℤ) (d : ℕ) (new : ℤ) → new ≡ pos h +ℤ y -ℤ z -ℤ pos d → new ≡ pos (positive new)
-    → h + positive y + positive (neg_ℤ z) - (positive (neg_ℤ y) + positive z + positive new) ≡ d
-given_back h y z d new e n =
-    let m = rw e at (ap (λ (x : ℤ). positive (neg_ℤ x)) n ∙ pos_cross (positive new)) in
-    rw e
-    (omega (arith, add_cross (pos h) y, minus_cross (pos h +ℤ y) z, minus_cross (pos h +ℤ y -ℤ z) (pos d), pos_cross h, pos_cross d, m))
-
--- nothing is given past the last cell
-pub given_past : (h : List ℕ) (net : List ℤ) (new : List ℕ) (i : ℕ) → length h ≤ i → given_at h net new i ≡ 0
-unfolding given_at
-given_past h net new i l = rw (le-ltb i (length h) l) refl
-
-depth_parts : (s : Reach) (t i : ℕ) → new_depth s t i ≡ pos (depth_at s i) +ℤ net_at s t i -ℤ net_at s t (suc i) -ℤ pos (sum (draws s t i))
-unfolding new_depth undrawn_depth
-depth_parts s t i = refl
 
 module _ (s : Reach) (k : Sound s) (t : ℕ) where
   -- CFL at place p
@@ -255,9 +238,12 @@ module _ (s : Reach) (k : Sound s) (t : ℕ) where
     pub wanted_long : length wanted ≡ cells_most
     wanted_long = ap length e ∙ length_tabulate cells_most (λ i. sum (wants_from os i))
 
-    module _ {F : ℕ} (net : List ℤ) (depth : List ℕ) (discharge : List ℤ) (w : Swept s t F wanted net depth discharge) where
+    module _ {F : ℕ} (net : List ℤ) (given depth : List ℕ) (discharge : List ℤ) (w : Swept s t F wanted net given depth discharge) where
       of_wants : (i : ℕ) → i < cells s → i < cells_most
       of_wants i l = omega (arith, l, k.few)
+
+      pub grant_of : (i : ℕ) → i < cells s → get_or given i 0 ≡ sum (draws s t i)
+      grant_of i l = w.grants i l ∙ ap (λ (n : ℕ). granted s t n i) (wanted_at i (of_wants i l)) ∙ sym (granted_is s t i)
 
       pub depth_of : (i : ℕ) → i < cells s → get_or depth i 0 ≡ positive (new_depth s t i)
       depth_of i l = w.depths i l ∙ ap (λ (n : ℕ). positive (granted_depth s t n i)) (wanted_at i (of_wants i l)) ∙ ap positive (sym (depth_is s t i))
@@ -267,53 +253,29 @@ module _ (s : Reach) (k : Sound s) (t : ℕ) where
       discharge_of deep i l =
           w.discharges i l ∙ ap (λ (n : ℕ). granted_discharge s t F n i) (wanted_at i (of_wants i l)) ∙ sym (discharge_is s t F i (depth_fits_lem deep i l))
 
-      pub told : cells s < length net → cells s ≤ length depth → Told s.depth net depth
-      told nets depths = record {
-        few = omega (arith, k.depths, k.few);
-        nets = omega (arith, k.depths, nets);
-        depths = omega (arith, k.depths, depths);
-        most = λ i l. (k.cell i (omega (arith, l, k.depths))).depth;
+      -- what each cell gives is no more than what is wanted of it, past the last cell too
+      pub grants : length given ≡ cells_most → ((i : ℕ) → cells s ≤ i → get_or given i 0 ≡ get_or wanted i 0) → Granted os wanted given
+      unfolding granted
+      grants long rest = record {
+        few = few;
+        long = long ∙ sym wanted_long;
+        within = λ n l. omega (arith, inside n l, k.few, wanted_long);
+        small = λ n l. (outlet_sound (cells s) os k.outlets n l).want;
+        wants = λ i l. wanted_at i (omega (arith, l, wanted_long));
+        most = λ i l. by_less i (cells s) (λ b. get_or given i 0 ≤ get_or wanted i 0) (λ j. rw (w.grants i j) (omega arith)) (λ j. rw (rest i j) (omega arith));
       }
 
-      -- of a step that meets CFL: what each cell gave
-      module _ (cfl : meets_cfl (place_speed s) (cells s + 1) s.cell_length t ≡ true) where
-        given_is : (i : ℕ) → i < cells s → given_at s.depth net depth i ≡ sum (draws s t i)
-        unfolding given_at
-        given_is i l =
-            rw (lt-ltb i (length s.depth) (omega (arith, l, k.depths)), w.nets i (omega arith), w.nets (i + 1) (omega arith), depth_of i l, add-one i)
-            (given_back (depth_at s i) (net_at s t i) (net_at s t (suc i)) (sum (draws s t i)) (new_depth s t i) (depth_parts s t i) (depth_not_negative s k t cfl i l))
-
-        given_at_lem : (i : ℕ) → i < cells s → get_or (given_column s.depth net depth) i 0 ≡ sum (draws s t i)
-        given_at_lem i l = get_or_tabulate cells_most (given_at s.depth net depth) i 0 (of_wants i l) ∙ given_is i l
-
-        -- no more than what is wanted of it
-        pub grants : Granted os wanted (given_column s.depth net depth)
-        unfolding granted
-        grants = record {
-          few = few;
-          long = length_tabulate cells_most (given_at s.depth net depth) ∙ sym wanted_long;
-          within = λ n l. omega (arith, inside n l, k.few, wanted_long);
-          small = λ n l. (outlet_sound (cells s) os k.outlets n l).want;
-          wants = λ i l. wanted_at i (omega (arith, l, wanted_long));
-          most = λ i l.
-              let j : i < cells_most = omega (arith, l, wanted_long) in
-              by_less i (cells s) (λ b. get_or (given_column s.depth net depth) i 0 ≤ get_or wanted i 0)
-              (λ q. rw (given_at_lem i q, wanted_at i j) (omega (arith, granted_is s t i)))
-              (λ q. rw (get_or_tabulate cells_most (given_at s.depth net depth) i 0 j, given_past s.depth net depth i (omega (arith, q, k.depths))) (omega arith));
-        }
-
-        pub got_of : (got : List ℕ)
-            → got ≡ tabulate 32 (λ n. cond (ltb n os.count) (get_or (dealt (get_or (given_column s.depth net depth) (outlet_at os n).cell 0) (wants_from os (outlet_at os n).cell)) n 0) 0)
-            → (n : ℕ) → n < os.count → get_or got n 0 ≡ draw_of s t n
-        unfolding draw_of
-        got_of got e n l =
-            let i = (outlet_at os n).cell in
-            let given = given_column s.depth net depth in
-            ap (λ (g : List ℕ). get_or g n 0) e
-            ∙ get_or_tabulate 32 (λ n. cond (ltb n os.count) (get_or (dealt (get_or given (outlet_at os n).cell 0) (wants_from os (outlet_at os n).cell)) n 0) 0) n 0 (omega (arith, l, few))
-            ∙ ap (λ (b : Bool). cond b (get_or (dealt (get_or given i 0) (wants_from os i)) n 0) 0) (lt-ltb n os.count l)
-            ∙ ap (λ (g : ℕ). get_or (dealt g (wants_from os i)) n 0) (given_at_lem i (inside n l) ∙ granted_is s t i)
-            ∙ ap (λ (ds : List ℕ). get_or ds n 0) (sym (draws_dealt s t i))
+      pub got_of : (got : List ℕ) → got ≡ tabulate 32 (λ n. cond (ltb n os.count) (get_or (dealt (get_or given (outlet_at os n).cell 0) (wants_from os (outlet_at os n).cell)) n 0) 0)
+          → (n : ℕ) → n < os.count → get_or got n 0 ≡ draw_of s t n
+      unfolding draw_of
+      got_of got e n l =
+          let i = (outlet_at os n).cell in
+          let j = inside n l in
+          ap (λ (g : List ℕ). get_or g n 0) e
+          ∙ get_or_tabulate 32 (λ n. cond (ltb n os.count) (get_or (dealt (get_or given (outlet_at os n).cell 0) (wants_from os (outlet_at os n).cell)) n 0) 0) n 0 (omega (arith, l, few))
+          ∙ ap (λ (b : Bool). cond b (get_or (dealt (get_or given i 0) (wants_from os i)) n 0) 0) (lt-ltb n os.count l)
+          ∙ ap (λ (g : ℕ). get_or (dealt g (wants_from os i)) n 0) (w.grants i j ∙ ap (λ (n : ℕ). granted s t n i) (wanted_at i (of_wants i j)))
+          ∙ ap (λ (ds : List ℕ). get_or ds n 0) (sym (draws_dealt s t i))
 
   module _ (cfl : meets_cfl (place_speed s) (cells s + 1) s.cell_length t ≡ true) {F : ℕ} (net : List ℤ) (depth : List ℕ) (discharge : List ℤ) (got : List ℕ) (w : StepFound s t F net depth discharge got) where
     -- the transport test
@@ -366,11 +328,12 @@ module _ (s : Reach) (k : Sound s) (t : ℕ) where
       unfolding after_step
       carried_written = rw (e, interfaces_kept) (tabulate_same (suc (cells s)) _ _ (λ i l. ap (λ (n : ℤ). carried_at (transported_first s t) i +ℤ n) (w.nets i (omega arith))))
 
-      pub addable : (i : ℕ) → i < length c → nat_abs (get_or c i (pos 0)) ≤ 1_000_000_000
-      addable i l =
+      pub addable : Mesh t s.cell_length → (i : ℕ) → i < length c → (nat_abs (get_or c i (pos 0)) ≤ 1_000_000_000) × (nat_abs (get_or net i (pos 0)) ≤ 1_000_000_000)
+      addable g i l =
           let j : i ≤ cells s = omega (arith, ap length e, interfaces_kept) in
           let a : nat_abs (get_or c i (pos 0)) ≤ carried_most = rw e (transported_small i j) in
-          omega (arith, a)
+          let b = net_at_lem g i j in
+          (omega (arith, a), omega (arith, b))
 
     -- what the outlets can have
     got_most : (n : ℕ) → n < os.count → get_or got n 0 ≤ want_most

@@ -1,13 +1,13 @@
 -- Not the paper's: what the inner functions require and give. A reader of the model may skip this file.
-use Rattle.std.specs.Prelude.{◌≡◌, Bool, true, false, cond, List, ℕ, ◌+◌, ◌-◌, ◌≤◌, ◌<◌, leb, ltb, ℤ, pos, ◌+ℤ◌, neg_ℤ, nat_abs, length, get_or}
-use Rattle.numbers.specs.Index.{all_below, tabulate}
+use Rattle.std.specs.Prelude.{◌≡◌, Bool, true, false, List, ℕ, ◌+◌, ◌≤◌, ◌<◌, leb, ℤ, pos, ◌+ℤ◌, neg_ℤ, nat_abs, length, get_or}
+use Rattle.numbers.specs.Index.{all_below}
 use Rattle.numbers.specs.Signed.{positive}
 use Rattle.outlet.specs.Outlets.{outlets_most, want_most, outlet_at, each_outlet}
 use Rattle.outlet.specs.declared.Outlet.{Outlet}
 use Rattle.outlet.specs.declared.Outlets.{Outlets}
 use Rattle.flux.specs.Limits.{depth_most}
 use Rattle.friction.specs.Friction.{strickler_fits}
-use Rattle.reach.specs.Limits.{cells_most, total_most}
+use Rattle.reach.specs.Limits.{total_most}
 use Rattle.reach.specs.Reach.{Reach, cells}
 use Rattle.mass.specs.Transport.{MassColumns}
 use Rattle.transport.specs.Ranges.{BoundaryMassOf}
@@ -16,7 +16,7 @@ use Rattle.timestep.specs.GreatestStep.{place_speed}
 use Rattle.update.specs.Step.{time_fits, depths_fit}
 use Rattle.water.specs.Water.{net_at, draw_of, new_depth, new_discharge}
 
--- carried water c and amounts N of n cells' interfaces, far from the ends of 64 bits, in which they are added
+-- carried water c and amounts N of n cells' interfaces, far from the ends of their type
 pub record Summable (n : ℕ) (c net : List ℤ) : Type 0 where
   -- far above any reach: an index fits its type
   pub few : n ≤ 1_000_000
@@ -34,25 +34,6 @@ sums_kept n c net h =
 pub record BoundaryMassWhen (transports : Bool) (s : MassColumns) (left_inflow leftOut right_inflow rightOut : ℕ) : Type 0 where
   pub transported : transports ≡ true → BoundaryMassOf s left_inflow leftOut right_inflow rightOut
   pub kept : transports ≡ false → (left_inflow ≡ 0) × (leftOut ≡ 0) × (right_inflow ≡ 0) × (rightOut ≡ 0)
-
--- what cell i gave in a step: its depth h and what came over both sides, less what left over them and its new depth; nothing past the last cell. Where
--- CFL is met nothing is cut off at 0 (`given_is`)
-unfoldable pub given_at : (h : List ℕ) (net : List ℤ) (new : List ℕ) → (i : ℕ) → ℕ
-given_at h net new i =
-    cond (ltb i (length h))
-    (get_or h i 0 + positive (get_or net i (pos 0)) + positive (neg_ℤ (get_or net (i + 1) (pos 0))) - (positive (neg_ℤ (get_or net i (pos 0))) + positive (get_or net (i + 1) (pos 0)) + get_or new i 0))
-    0
-
--- of as many cells as a reach may have
-abbrev pub given_column : (h : List ℕ) (net : List ℤ) (new : List ℕ) → List ℕ
-given_column h net new = tabulate cells_most (given_at h net new)
-
--- columns by which what was given is told: long enough, and the depths in range; N and the new depths are narrow
-pub record Told (h : List ℕ) (net : List ℤ) (new : List ℕ) : Type 0 where
-  pub few : length h ≤ cells_most
-  pub nets : length h < length net
-  pub depths : length h ≤ length new
-  pub most : (i : ℕ) → i < length h → get_or h i 0 ≤ depth_most
 
 -- outlets that each have the amount at their place in `got`
 unfoldable pub outlet_with : Outlets → (got : List ℕ) → (k : ℕ) → Outlet

@@ -18,7 +18,7 @@ ghost use Rattle.stepping.specs.Ranges.{BoundaryMassWhen, Room, with_draws, Step
 ghost use Rattle.stepping.specs.StepCall.{stopped_by, StepCameTo};
 
 use super::ledger::enter_step;
-use super::outlets::{deal_out, draw, lay_out_wants};
+use super::outlets::{deal_out, draw, wants_by_cell};
 use super::transporting::{boundary_mass_when, keeps_sums, move_outlets_when, transport_when};
 use friction::strickler_fits;
 use mass::outlets::take_gains;
@@ -83,7 +83,7 @@ fn check_strickler(f: u64) -> Check
 }
 
 // Ground 12, of the first n depths
-fn check_depths(depth: &[u32], n: usize) -> Check
+fn check_depths(depth: &[u64], n: usize) -> Check
     requires { n ≤ length depth.now }
     ensures { result ≡ pass_or 12 (all_below n (λ i. leb (get_or depth.now i 0) depth_most)) }
 {
@@ -102,12 +102,12 @@ fn write_step(
     depth: &mut [u64],
     discharge: &mut [i64],
     carried: &mut [i64],
-    net: &[i32],
-    new_depth: &[u32],
+    net: &[i64],
+    new_depth: &[u64],
     new_discharge: &[i64],
 )
     requires depth_in_bounds { (length depth.old ≤ length new_depth.now) × ((length discharge.old ≤ length new_discharge.now) × (length carried.old ≤ length net.now)) }
-    requires by_index { (i : ℕ) → i < length carried.old → nat_abs (get_or carried.old i (pos 0)) ≤ 1_000_000_000 }
+    requires by_index { (i : ℕ) → i < length carried.old → (nat_abs (get_or carried.old i (pos 0)) ≤ 1_000_000_000) × (nat_abs (get_or net.now i (pos 0)) ≤ 1_000_000_000) }
     ensures depth_after { depth.new ≡ tabulate (length depth.old) (λ i. get_or new_depth.now i 0) }
     ensures discharge_after { discharge.new ≡ tabulate (length discharge.old) (λ i. get_or new_discharge.now i (pos 0)) }
     ensures carried_after { carried.new ≡ tabulate (length carried.old) (λ i. get_or carried.old i (pos 0) +ℤ get_or net.now i (pos 0)) }
@@ -133,8 +133,8 @@ fn book(
     carried: &[i64],
     held: Held,
     got: [u64; 32],
-    first: i32,
-    last: i32,
+    first: i64,
+    last: i64,
 ) -> Booked
     requires ready { Ready (mass_columns_with mass.now base.now carried.now undrawn held.boundaries) }
     requires in_bounds { (1 ≤ length mass.now) × OutletsReady mass.now base.now carried.now held.outlets }
@@ -148,7 +148,7 @@ fn book(
     let old = held.ledger;
     let before = held.outlets;
     let crossed = boundary_mass_when(transports, mass, base, carried, boundaries);
-    let ledger = enter_step(old, crossed, first as i64, last as i64);
+    let ledger = enter_step(old, crossed, first, last);
     let moved = move_outlets_when(transports, mass, base, carried, before);
     let outlets = draw(moved, got);
     let after = Held {
@@ -174,8 +174,8 @@ fn complete(
     held: Held,
     t: u64,
     f: u64,
-    net: &[i32],
-    new_depth: &[u32],
+    net: &[i64],
+    new_depth: &[u64],
     new_discharge: &[i64],
     got: [u64; 32],
 ) -> StepAnswer
@@ -238,11 +238,11 @@ fn advance(
 {
     let boundaries = held.boundaries;
     let n = bed.len();
-    let mut net = [0i32; CELLS_MOST + 1];
-    let mut new_depth = [0u32; CELLS_MOST];
+    let mut net = [0i64; CELLS_MOST + 1];
+    let mut given = [0u64; CELLS_MOST];
+    let mut new_depth = [0u64; CELLS_MOST];
     let mut new_discharge = [0i64; CELLS_MOST];
-    // the column of the new depths goes into the sweep with what is wanted of each cell
-    lay_out_wants(held, &mut new_depth);
+    wants_by_cell(held, &mut given);
     let Check::Pass = sweep(
         t,
         f,
@@ -252,6 +252,7 @@ fn advance(
         discharge,
         boundaries,
         &mut net,
+        &mut given,
         &mut new_depth,
         &mut new_discharge,
     ) else {
@@ -260,7 +261,7 @@ fn advance(
     let Check::Pass = check_depths(&new_depth, n) else {
         return stopped(12, held);
     };
-    let got = deal_out(held, depth, &net, &new_depth);
+    let got = deal_out(held, &given);
     complete(
         bed,
         depth,

@@ -15,16 +15,16 @@ use reach::boundary::Boundary;
 use transport::{BoundaryMass, boundary_mass_of, commit};
 
 // What came into a cell of depth h, over its left and over its right, is covered by it.
-fn covers(h: u32, left: i64, right: i64) -> bool
+fn covers(h: u64, left: i64, right: i64) -> bool
     requires { (nat_abs left ≤ 2_000_000_000) × (nat_abs right ≤ 2_000_000_000) }
     ensures { result ≡ leb (positive left + positive (neg_ℤ right)) h }
 {
-    right_part(left) + left_part(right) <= h as u64
+    right_part(left) + left_part(right) <= h
 }
 
 // Whether every cell's base depth covers what left it, with N and what it gives now, over both sides and by its outlets. Base depth and inflow are depth and
 // outflow, so that is told by the new depths, whatever was drawn: each covers what came in (`kept_by_depth`).
-pub fn keeps_sums(n: usize, carried: &[i64], net: &[i32], new_depth: &[u32]) -> bool
+pub fn keeps_sums(n: usize, carried: &[i64], net: &[i64], new_depth: &[u64]) -> bool
     requires { Summable n carried.now net.now × (n ≤ length new_depth.now) }
     ensures { result ≡ sums_kept n carried.now net.now new_depth.now }
 {

@@ -1,6 +1,8 @@
 // One sweep along the reach: every cell, every boundary and every interface is looked at once, and what a step makes of each cell is set
 // down beside the record, which stays as it is.
-ghost use Rattle.std.specs.Prelude.{◌≡◌, cond, ◌&&◌, ◌+◌, ◌-◌, ◌*◌, ◌≤◌, ◌<◌, min, eqb, ltb, pos, ◌+ℤ◌, ◌-ℤ◌, nat_abs, length, get_or};
+#![tactic(auto)]
+
+ghost use Rattle.std.specs.Prelude.{◌≡◌, cond, ◌&&◌, ℕ, ◌+◌, ◌-◌, ◌*◌, ◌≤◌, ◌<◌, min, eqb, ltb, pos, ◌+ℤ◌, ◌-ℤ◌, nat_abs, length, get_or};
 ghost use Rattle.std.proofs.Math.IntN.{sub_ℕ};
 ghost use Rattle.numbers.specs.Table.{RootTable};
 ghost use Rattle.flux.specs.Limits.{depth_most, velocity_most, time_step_most};
@@ -67,16 +69,16 @@ fn right_side(
     boundary_state(BoundaryPlace::Right, boundary, before, roots)
 }
 
-// N of a crossing; 32 bits hold it
-fn net_of(c: Exchange) -> i32
+// N of a crossing
+fn net_of(c: Exchange) -> i64
     requires { ExchangeFits c }
     ensures { result ≡ sub_ℕ c.rightward c.leftward }
 {
-    joined(c.rightward, c.leftward) as i32
+    joined(c.rightward, c.leftward)
 }
 
 // What a cell gives of what its outlets want: no more than its own two outgoing W leave of its depth
-fn granted_of(h: u64, l: Exchange, r: Exchange, wanted: u32) -> u64
+fn granted_of(h: u64, l: Exchange, r: Exchange, wanted: u64) -> u64
     requires { ExchangeFits l × ExchangeFits r }
     ensures { result ≡ min (h - (l.leftward + r.rightward)) wanted }
 {
@@ -84,22 +86,22 @@ fn granted_of(h: u64, l: Exchange, r: Exchange, wanted: u32) -> u64
         return 0;
     }
     let available = excess(h, l.leftward + r.rightward);
-    if available < wanted as u64 {
+    if available < wanted {
         return available;
     }
-    wanted as u64
+    wanted
 }
 
-// The depth of a cell after the step, by what crosses at its left and at its right and what it gives; 32 bits hold it. CFL keeps the difference from
-// being cut off at 0.
-fn depth_after(h: u64, l: Exchange, r: Exchange, given: u64) -> u32
+// The depth of a cell after the step, by what crosses at its left and at its right and what it gives. CFL keeps the difference from being cut off
+// at 0.
+fn depth_after(h: u64, l: Exchange, r: Exchange, given: u64) -> u64
     requires { (h ≤ depth_most) × ((given ≤ h) × (ExchangeFits l × ExchangeFits r)) }
     ensures { result ≡ h + l.rightward + r.leftward - (l.leftward + r.rightward + given) }
 {
     excess(
         h + l.rightward + r.leftward,
         l.leftward + r.rightward + given,
-    ) as u32
+    )
 }
 
 // Its discharge after friction of its bed, over the depth that it then has; c is the cell before the step and d is D of its new depth
@@ -160,8 +162,8 @@ fn check_cfl(met: bool) -> Check
     Check::Pass
 }
 
-// Ground 11, CFL at every side; N of each interface, and depth and discharge of each cell after the step. `new_depth` comes with what is wanted of each
-// cell, which is read where the depth is written: what the cell gave is told by the depths and N.
+// Ground 11, CFL at every side; N of each interface, what each cell gives, and its depth and discharge after the step. `given` comes with what is
+// wanted of each cell.
 pub fn sweep(
     t: u64,
     f: u64,
@@ -170,15 +172,17 @@ pub fn sweep(
     depth: &[u64],
     discharge: &[i64],
     boundaries: [Boundary; 2],
-    net: &mut [i32],
-    new_depth: &mut [u32],
+    net: &mut [i64],
+    given: &mut [u64],
+    new_depth: &mut [u64],
     new_discharge: &mut [i64],
 ) -> Check
     requires mesh { Mesh t x × FlowFits (flow_of bed.now depth.now discharge.now x boundaries) }
-    requires bed_in_bounds { (length bed.now < length net.old) × ((length bed.now ≤ length new_depth.old) × (length bed.now ≤ length new_discharge.old)) }
+    requires bed_in_bounds { (length bed.now < length net.old) × ((length bed.now ≤ length given.old) × ((length bed.now ≤ length new_depth.old) × (length bed.now ≤ length new_discharge.old))) }
     requires f_le_strickler_most { f ≤ strickler_most }
     ensures value { result ≡ pass_or 11 (sides_meet (flow_of bed.now depth.now discharge.now x boundaries) t) }
-    ensures swept { Swept (flow_of bed.now depth.now discharge.now x boundaries) t f new_depth.old net.new new_depth.new new_discharge.new }
+    ensures swept { Swept (flow_of bed.now depth.now discharge.now x boundaries) t f given.old net.new given.new new_depth.new new_discharge.new }
+    ensures by_index { (i : ℕ) → length bed.now ≤ i → get_or given.new i 0 ≡ get_or given.old i 0 }
 {
     let n = bed.len();
     let roots = root_table();
@@ -195,6 +199,7 @@ pub fn sweep(
         let next = right_side(bed, depth, discharge, boundaries[1], cell, i + 1, &roots);
         if stays_dry(dry, next) {
             net[i + 1] = 0;
+            given[i] = 0;
             new_depth[i] = 0;
             new_discharge[i] = 0;
             cell = next;
@@ -203,13 +208,14 @@ pub fn sweep(
         }
         dry = both_dry(cell, next);
         let right = exchange_between(t, x, span, cell, next, &roots);
-        let taken = granted_of(depth[i], left, right, new_depth[i]);
+        let taken = granted_of(depth[i], left, right, given[i]);
         let deep = depth_after(depth[i], left, right, taken);
         met = still_meets(met, t, x, next);
         net[i + 1] = net_of(right);
+        given[i] = taken;
         new_depth[i] = deep;
-        let d = conveyance_squared(f, deep as u64, &powers);
-        new_discharge[i] = momentum_after(f, d, t, cell, discharge[i], left, right, deep as u64);
+        let d = conveyance_squared(f, deep, &powers);
+        new_discharge[i] = momentum_after(f, d, t, cell, discharge[i], left, right, deep);
         cell = next;
         left = right;
         i += 1;

@@ -1,4 +1,6 @@
 // Text put into a buffer of bytes, from `at` on; each function answers where the next text goes.
+#![tactic(auto)]
+
 ghost use Rattle.std.specs.Prelude.{◌≡◌, [], ◌∷◌, ◌+◌, ◌-◌, ◌/◌, ◌%◌, ◌^◌, ◌≤◌, ◌<◌, length};
 ghost use Rattle.text.specs.Text.{digit_count, decimal, signed_decimal, Put};
 

@@ -1,4 +1,6 @@
 // The greatest time step that a record allows (document 01, 'The greatest step'; document 02, point 2).
+#![tactic(auto)]
+
 ghost use Rattle.std.specs.Prelude.{◌≡◌, ◌*◌, ◌≤◌, nat_abs};
 ghost use Rattle.numbers.specs.Table.{RootTable};
 ghost use Rattle.flux.specs.Limits.{depth_most, velocity_most};

@@ -1,4 +1,6 @@
 // The calls that move mass: transport (document 01, 'Settling') and the setting of boundaries ('end setting').
+#![tactic(auto)]
+
 ghost use Rattle.std.specs.Prelude.{◌≡◌, true, ◌+◌, ◌≤◌, pos, length, replicate};
 ghost use Rattle.mass.specs.Transport.{mass_columns};
 ghost use Rattle.mass.specs.Ranges.{Ready, mass_most, moved_mass};

@@ -470,7 +470,7 @@ module _ (s : Reach) (t : ℕ) where
   module _ (i : ℕ) {a b p d e a' b' p' d' e' : ℕ} (l : i < cells s)
       (k : ExchangeOf t s.cell_length (left_side s i) (right_side s i) a b p d e)
       (k' : ExchangeOf t s.cell_length (left_side s (i + 1)) (right_side s (i + 1)) a' b' p' d' e') where
-    grant_by_crossings : (w : ℕ) → granted s t w i ≡ min (depth_at s i - (b + a')) w
+    pub grant_by_crossings : (w : ℕ) → granted s t w i ≡ min (depth_at s i - (b + a')) w
     unfolding granted leftward rightward
     grant_by_crossings w =
         let r : a' ≡ rightward s t (suc i) = rw (add-one i) at k'.rightward_is in
@@ -565,6 +565,9 @@ module _ (s : Reach) (t i : ℕ) (l : i < cells s) (left : (left_side s i).depth
 
   pub dry_net : net_at s t (i + 1) ≡ pos 0
   dry_net = net_by_crossing s t (i + 1) behind ∙ sym (pos_sub 0)
+
+  pub dry_granted : (w : ℕ) → granted s t w i ≡ 0
+  dry_granted w = grant_by_crossings s t i l before behind w ∙ omega (arith, no_depth)
 
   pub dry_depth : (w : ℕ) → positive (granted_depth s t w i) ≡ 0
   dry_depth w = depth_by_crossings s t i l before behind w ∙ omega (arith, no_depth)
@@ -675,9 +678,10 @@ module _ (s : Reach) (t : ℕ) where
   unfolding granted_discharge cell_side
   discharge_same F w i = rw (depth_same w i, pushed_same i) refl
 
-  pub swept_same : (F : ℕ) (wanted : List ℕ) (net : List ℤ) (depth : List ℕ) (discharge : List ℤ) → Swept flow t F wanted net depth discharge → Swept s t F wanted net depth discharge
-  swept_same F wanted net depth discharge k = record {
+  pub swept_same : (F : ℕ) (wanted : List ℕ) (net : List ℤ) (given depth : List ℕ) (discharge : List ℤ) → Swept flow t F wanted net given depth discharge → Swept s t F wanted net given depth discharge
+  swept_same F wanted net given depth discharge k = record {
     nets = λ i l. k.nets i l ∙ net_same i;
+    grants = λ i l. k.grants i l ∙ granted_same (get_or wanted i 0) i;
     depths = λ i l. k.depths i l ∙ ap positive (depth_same (get_or wanted i 0) i);
     discharges = λ i l. k.discharges i l ∙ discharge_same F (get_or wanted i 0) i;
   }

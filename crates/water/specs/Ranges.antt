@@ -39,7 +39,7 @@ pub record ExchangeOf (t X : ℕ) (l r : Side) (rightward leftward momentum lost
   pub lost_left_is : lostLeft ≡ still_thrust t X l.depth - still_thrust t X (left_depth l r)
   pub lost_right_is : lostRight ≡ still_thrust t X r.depth - still_thrust t X (right_depth l r)
 
--- bounds of those amounts: both W below 2^30, so that N fits 32 bits with its sign, the others far below 2^64
+-- bounds of those amounts, far below what 64 bits hold
 abbrev pub flux_most : ℕ
 flux_most = 640_000_000
 
@@ -98,8 +98,9 @@ granted_discharge s t F wanted i =
     let h = positive (granted_depth s t wanted i) in
     nearest (velocity_most * h) (slowed F t (nat_abs (cell_side s i).velocity) (min (centimetres h) table_most) (pushed s t i))
 
--- what the sweep gives: N at each interface, and depth and discharge of each cell after the step, of what is wanted of it
-pub record Swept (s : Reach) (t F : ℕ) (wanted : List ℕ) (net : List ℤ) (depth : List ℕ) (discharge : List ℤ) : Type 0 where
+-- what the sweep gives: N at each interface; what each cell gives of the wants; and depth and discharge of each cell after the step
+pub record Swept (s : Reach) (t F : ℕ) (wanted : List ℕ) (net : List ℤ) (given depth : List ℕ) (discharge : List ℤ) : Type 0 where
   pub nets : (i : ℕ) → i ≤ cells s → get_or net i (pos 0) ≡ net_at s t i
+  pub grants : (i : ℕ) → i < cells s → get_or given i 0 ≡ granted s t (get_or wanted i 0) i
   pub depths : (i : ℕ) → i < cells s → get_or depth i 0 ≡ positive (granted_depth s t (get_or wanted i 0) i)
   pub discharges : (i : ℕ) → i < cells s → get_or discharge i (pos 0) ≡ granted_discharge s t F (get_or wanted i 0) i

@@ -1,4 +1,6 @@
 // The water of a step (document 01, 'A water step'): what a cell or a boundary shows at an interface, and what crosses there.
+#![tactic(auto)]
+
 ghost use Rattle.std.specs.Prelude.{◌≡◌, ◌*◌, ◌-◌, ◌≤◌, ◌<◌, pos, ◌+ℤ◌, ◌-ℤ◌, nat_abs};
 ghost use Rattle.numbers.specs.Table.{RootTable};
 ghost use Rattle.flux.specs.Limits.{bed_most, depth_most, velocity_most, time_step_most};

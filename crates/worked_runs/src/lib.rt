@@ -1,4 +1,6 @@
 // Worked examples of whole steps, of a run, and of document 02's outlets and friction: as in the crate `worked`, apart from it since they take longer to compute.
+#![tactic(auto)]
+
 ghost use Rattle.worked_runs.specs.Draws.{DrawsWorked};
 ghost use Rattle.worked_runs.specs.Friction.{FrictionWorked};
 ghost use Rattle.worked_runs.specs.Outlets.{OutletsWorked};

@@ -5,7 +5,7 @@ use native.Mathlib.Omega.{arith}
 use borrow.Author.Rules.{rules, sfits_of}
 use lib.IntN.{ℤ, pos, ◌+ℤ◌}
 use lib.ListN.{get_or}
-use mir.Syntax.{w32, w64}
+use mir.Syntax.{w64}
 use mir.Facts.{to_z-of_z}
 use Rattle.numbers.proofs.IndexLaws.{Written, written_none, written_more, written_all}
 use Rattle.numbers.proofs.columns.add_column.Statement.{statement}
@@ -37,7 +37,8 @@ sum-of-requires c κs =
     let l = c.before.before.before.loop in
     let s = c.before.before.before.before in
     let old = to_z-of_z {w = w64} {z = get_or l.to l.i (pos 0)} (sfits_of c.before.sum-of-arg.given) in
-    rw (old, l.invariant.1.same l.i (omega arith)) (s.requires.1 l.i (omega arith))
+    let more = to_z-of_z {w = w64} {z = get_or s.args.by.now l.i (pos 0)} (sfits_of c.sum-of-arg2.given) in
+    rw (old, more, l.invariant.1.same l.i (omega arith)) (s.requires.1 l.i (omega arith))
 
 mul-t13 : tie.Need-overflow-mul-t13 invariant-loop decreases-loop
 mul-t13 c = search rules
@@ -56,7 +57,7 @@ loop-again c =
     let l = c.before.before.before.before.loop in
     let by = c.before.before.before.before.before.args.by.now in
     let old = to_z-of_z {w = w64} {z = get_or l.to l.i (pos 0)} (sfits_of c.before.before.sum-of-arg.given) in
-    let more = to_z-of_z {w = w32} {z = get_or by l.i (pos 0)} (sfits_of c.before.sum-of-arg2.given) in
+    let more = to_z-of_z {w = w64} {z = get_or by l.i (pos 0)} (sfits_of c.before.sum-of-arg2.given) in
     let e = rw (old, more) at c.sum_of.ensures in
     let h = l.invariant.1.same l.i (omega arith) in (
       omega arith,

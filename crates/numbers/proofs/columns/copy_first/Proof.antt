@@ -23,9 +23,6 @@ mul-to c = search rules
 shared-slice-read-to : tie.Need-shared-slice-read-to invariant-loop decreases-loop
 shared-slice-read-to c = search rules
 
-cast-to : tie.Need-overflow-cast-to invariant-loop decreases-loop
-cast-to c = omega (arith, c.shared-slice-known.given c.before.before.loop.i)
-
 mul-to-2 : tie.Need-overflow-mul-to-2 invariant-loop decreases-loop
 mul-to-2 c = search rules
 
@@ -59,7 +56,6 @@ copy_first_spec =
     loop-holds
     mul-to
     shared-slice-read-to
-    cast-to
     mul-to-2
     slice-write-to
     add-i

@@ -26,10 +26,9 @@ use Rattle.water.specs.Water.{wants_from, new_depth}
 use Rattle.water.proofs.WaterLaws.{sides_same, swept_same}
 use Rattle.timestep.specs.GreatestStep.{place_speed}
 use Rattle.update.specs.Step.{depths_fit}
-use Rattle.stepping.specs.Ranges.{given_column}
 use Rattle.stepping.specs.StepCall.{StepCameTo}
 use Rattle.stepping.specs.declared.step.StepAnswer.{StepAnswer}
-use Rattle.stepping.proofs.StepCallLaws.{mesh, water_fits, met_is, depths_are, wanted_long, depth_of, discharge_of, told as told-by, grants, got_of, stopped_11, stopped_12, stayed}
+use Rattle.stepping.proofs.StepCallLaws.{mesh, water_fits, met_is, depths_are, wanted_long, depth_of, discharge_of, grants, got_of, stopped_11, stopped_12, stayed}
 use Rattle.stepping.proofs.step.advance.Statement.{statement}
 use Rattle.stepping.proofs.step.advance.Tie as tie
 
@@ -47,38 +46,44 @@ fine s = mesh (reach s) (whole s) s.args.t s.requires.1.0
 -- ---- after the sweep
 
 abbrev entry : tie.After-sweep → tie.Start
-entry c = c.before.before.before.before.before.before.before.before.before.before.before.before.before
+entry c = c.before.before.before.before.before.before.before.before.before.before.before.before.before.before
 
 -- what is wanted of each cell
 abbrev wants : tie.After-sweep → List ℕ
-wants c = c.before.before.before.before.before.before.before.lay-out-wants.new.1.0
+wants c = c.before.before.before.before.before.before.before.before.wants-by-cell.new.1.0
 
 wanted : (c : tie.After-sweep) → wants c ≡ tabulate cells_most (λ i. sum (wants_from (entry c).args.held.outlets i))
-wanted c = c.before.before.before.before.before.before.before.lay-out-wants.ensures
+wanted c = c.before.before.before.before.before.before.before.before.wants-by-cell.ensures
 
 abbrev net : tie.After-sweep → List ℤ
 net c = c.sweep.new.1.1.1.1.1.1.1.0
 
+abbrev given : tie.After-sweep → List ℕ
+given c = c.sweep.new.1.1.1.1.1.1.1.1.0
+
 abbrev depth : tie.After-sweep → List ℕ
-depth c = c.sweep.new.1.1.1.1.1.1.1.1.0
+depth c = c.sweep.new.1.1.1.1.1.1.1.1.1.0
 
 abbrev discharge : tie.After-sweep → List ℤ
-discharge c = c.sweep.new.1.1.1.1.1.1.1.1.1.0
+discharge c = c.sweep.new.1.1.1.1.1.1.1.1.1.1.0
 
-swept : (c : tie.After-sweep) → Swept (reach (entry c)) (entry c).args.t (entry c).args.f (wants c) (net c) (depth c) (discharge c)
-swept c = swept_same (reach (entry c)) (entry c).args.t (entry c).args.f (wants c) (net c) (depth c) (discharge c) c.sweep.ensures.1
+swept : (c : tie.After-sweep) → Swept (reach (entry c)) (entry c).args.t (entry c).args.f (wants c) (net c) (given c) (depth c) (discharge c)
+swept c = swept_same (reach (entry c)) (entry c).args.t (entry c).args.f (wants c) (net c) (given c) (depth c) (discharge c) c.sweep.ensures.1.0
 
 net-length : (c : tie.After-sweep) → length (net c) ≡ 513
 net-length c = c.sweep.auto.1.1.1.1.1.1.1.0
 
+given-length : (c : tie.After-sweep) → length (given c) ≡ 512
+given-length c = c.sweep.auto.1.1.1.1.1.1.1.1.0 ∙ c.before.before.before.before.before.before.before.before.wants-by-cell.auto.1.0
+
 depth-length : (c : tie.After-sweep) → length (depth c) ≡ 512
-depth-length c = c.sweep.auto.1.1.1.1.1.1.1.1.0 ∙ c.before.before.before.before.before.before.before.lay-out-wants.auto.1.0
+depth-length c = c.sweep.auto.1.1.1.1.1.1.1.1.1.0
 
 discharge-length : (c : tie.After-sweep) → length (discharge c) ≡ 512
-discharge-length c = c.sweep.auto.1.1.1.1.1.1.1.1.1.0
+discharge-length c = c.sweep.auto.1.1.1.1.1.1.1.1.1.1.0
 
 depths-found : (c : tie.After-sweep) → (i : ℕ) → i < cells (reach (entry c)) → get_or (depth c) i 0 ≡ positive (new_depth (reach (entry c)) (entry c).args.t i)
-depths-found c = depth_of (reach (entry c)) (whole (entry c)) (entry c).args.t (wants c) (wanted c) (net c) (depth c) (discharge c) (swept c)
+depths-found c = depth_of (reach (entry c)) (whole (entry c)) (entry c).args.t (wants c) (wanted c) (net c) (given c) (depth c) (discharge c) (swept c)
 
 -- ground 11
 abbrev met : tie.Start → Bool
@@ -87,13 +92,13 @@ met s = meets_cfl (place_speed (reach s)) (cells (reach s) + 1) s.args.x s.args.
 met-same : (s : tie.Start) {v : Bool} → sides_meet (flow_of s.args.bed.now s.args.depth.now s.args.discharge.now s.args.x s.args.held.boundaries) s.args.t ≡ v → met s ≡ v
 met-same s e = sym (met_is (reach s) (whole s) s.args.t) ∙ sym (sides_same (reach s) s.args.t) ∙ e
 
-slice-aggregate-lay-out-wants : tie.Need-slice-aggregate-lay-out-wants
-slice-aggregate-lay-out-wants c = search rules
+slice-aggregate-wants-by-cell : tie.Need-slice-aggregate-wants-by-cell
+slice-aggregate-wants-by-cell c = search rules
 
-lay-out-wants-requires : tie.Need-lay-out-wants-requires
-lay-out-wants-requires c κs =
+wants-by-cell-requires : tie.Need-wants-by-cell-requires
+wants-by-cell-requires c κs =
     let k = whole c.before.before.before.before.before in
-    ((outlets_few _ _ k.outlets, omega arith), ((λ j l. let o = outlet_sound _ _ k.outlets j l in (omega (arith, o.cell, k.few), o.want)), zeros 512))
+    (outlets_few _ _ k.outlets, ((λ j l. let o = outlet_sound _ _ k.outlets j l in (omega (arith, o.cell, k.few), o.want)), zeros 512))
 
 slice-aggregate-sweep : tie.Need-slice-aggregate-sweep
 slice-aggregate-sweep c = search rules
@@ -104,12 +109,15 @@ slice-aggregate-sweep-2 c = search rules
 slice-aggregate-sweep-3 : tie.Need-slice-aggregate-sweep-3
 slice-aggregate-sweep-3 c = search rules
 
+slice-aggregate-sweep-4 : tie.Need-slice-aggregate-sweep-4
+slice-aggregate-sweep-4 c = search rules
+
 sweep-requires : tie.Need-sweep-requires
 sweep-requires c κs =
-    let s = c.before.before.before.before.before.before.before.before.before.before.before.before in
+    let s = c.before.before.before.before.before.before.before.before.before.before.before.before.before in
     let k = whole s in
     let n = k.few in
-    ((fine s, water_fits (reach s) k), ((omega (arith, n), (omega (arith, n, wanted_long (reach s) k s.args.t _ c.before.before.before.before.before.before.lay-out-wants.ensures), omega (arith, n))), strickler_most_lem s.args.f s.requires.1.1))
+    ((fine s, water_fits (reach s) k), ((omega (arith, n), (omega (arith, n, wanted_long (reach s) k s.args.t _ c.before.before.before.before.before.before.before.wants-by-cell.ensures), (omega (arith, n), omega (arith, n)))), strickler_most_lem s.args.f s.requires.1.1))
 
 enum_told : tie.Need-enum-told
 enum_told c = search rules
@@ -128,7 +136,7 @@ same-length-2 c = search rules
 
 returns : tie.Need-returns
 returns c =
-    let w = c.before.before.before.before.before.before in
+    let w = c.before.before.before.before.before.before.before in
     let s = entry w in
     let a = s.args in
     subst (λ (r : StepAnswer). StepCameTo (reach s) a.t a.f r a.depth.now a.discharge.now a.mass.now a.base.now a.carried.now) (sym c.stopped.ensures)
@@ -137,7 +145,7 @@ returns c =
 
 -- ground 11 stood
 abbrev swung : tie.After-enum-told → tie.After-sweep
-swung c = c.before.before.before.before.before
+swung c = c.before.before.before.before.before.before
 
 cfl : (c : tie.After-enum-told) → met (entry (swung c)) ≡ true
 cfl c = met-same (entry (swung c)) (passed 11 _ _ (swung c).sweep.ensures.0 c.enum_told.given.1)
@@ -188,40 +196,33 @@ abbrev over : tie.After-enum-told3 → tie.After-sweep
 over c = swung (told c)
 
 slice-aggregate-deal-out : tie.Need-slice-aggregate-deal-out
-slice-aggregate-deal-out c = sym (net-length (over c.before.before))
-
-slice-aggregate-deal-out-2 : tie.Need-slice-aggregate-deal-out-2
-slice-aggregate-deal-out-2 c = sym (depth-length (over c.before.before.before))
+slice-aggregate-deal-out c = sym (given-length (over c.before))
 
 deal-out-requires : tie.Need-deal-out-requires
 deal-out-requires c κs =
-    let m = c.before.before.before in
-    let w = over m in
+    let w = over c.before in
     let s = entry w in
-    let k = whole s in
-    let f = cfl (told m) in (
-      subst (λ (ws : List ℕ). Granted s.args.held.outlets ws (given_column s.args.depth.now (net w) (depth w))) (wanted w)
-          (grants (reach s) k s.args.t (wants w) (wanted w) (net w) (depth w) (discharge w) (swept w) f),
-      told-by (reach s) k s.args.t (wants w) (wanted w) (net w) (depth w) (discharge w) (swept w) (omega (arith, net-length w, k.few)) (omega (arith, depth-length w, k.few)),
-    )
+    subst (λ (ws : List ℕ). Granted s.args.held.outlets ws (given w)) (wanted w)
+    (grants (reach s) (whole s) s.args.t (wants w) (wanted w) (net w) (given w) (depth w) (discharge w) (swept w) (given-length w) w.sweep.ensures.1.1)
 
 slice-aggregate-complete : tie.Need-slice-aggregate-complete
-slice-aggregate-complete c = sym (net-length (over c.before.before.before.before.before.before.before.before.before.before))
+slice-aggregate-complete c = sym (net-length (over c.before.before.before.before.before.before.before.before))
 
 slice-aggregate-complete-2 : tie.Need-slice-aggregate-complete-2
-slice-aggregate-complete-2 c = sym (depth-length (over c.before.before.before.before.before.before.before.before.before.before.before))
+slice-aggregate-complete-2 c = sym (depth-length (over c.before.before.before.before.before.before.before.before.before))
 
 slice-aggregate-complete-3 : tie.Need-slice-aggregate-complete-3
-slice-aggregate-complete-3 c = sym (discharge-length (over c.before.before.before.before.before.before.before.before.before.before.before.before))
+slice-aggregate-complete-3 c = sym (discharge-length (over c.before.before.before.before.before.before.before.before.before.before))
 
 complete-requires : tie.Need-complete-requires
 complete-requires c κs =
-    let m = c.before.before.before.before.before.before.before.before.before.before.before.before in
+    let m = c.before.before.before.before.before.before.before.before.before.before in
     let w = over m in
     let s = entry w in
     let k = whole s in
     let r = reach s in
-    let t = s.args.t in (
+    let t = s.args.t in
+    let found : (i : ℕ) → i < cells r → i < 512 = λ i l. omega (arith, l, k.few) in (
       s.pre.0,
       (
         record { time = s.pre.1.0; strickler = s.pre.1.1; cfl = cfl (told m); deep = deep m },
@@ -231,8 +232,8 @@ complete-requires c κs =
           discharge_long = omega (arith, discharge-length w, k.few);
           nets = (swept w).nets;
           depths = depths-found w;
-          discharges = discharge_of r k t (wants w) (wanted w) (net w) (depth w) (discharge w) (swept w) (deep m);
-          gots = got_of r k t (wants w) (wanted w) (net w) (depth w) (discharge w) (swept w) (cfl (told m)) _ c.before.before.before.before.before.before.before.before.deal-out.ensures;
+          discharges = discharge_of r k t (wants w) (wanted w) (net w) (given w) (depth w) (discharge w) (swept w) (deep m);
+          gots = got_of r k t (wants w) (wanted w) (net w) (given w) (depth w) (discharge w) (swept w) _ c.before.before.before.before.before.before.before.before.deal-out.ensures;
         },
       ),
     )
@@ -259,11 +260,12 @@ pub advance_spec : {M : Type 1} → statement M
 advance_spec =
     tie.close
     (tie.spec
-    slice-aggregate-lay-out-wants
-    lay-out-wants-requires
+    slice-aggregate-wants-by-cell
+    wants-by-cell-requires
     slice-aggregate-sweep
     slice-aggregate-sweep-2
     slice-aggregate-sweep-3
+    slice-aggregate-sweep-4
     sweep-requires
     enum_told
     enum-told-2
@@ -280,7 +282,6 @@ advance_spec =
     same-length-4
     returns-2
     slice-aggregate-deal-out
-    slice-aggregate-deal-out-2
     deal-out-requires
     slice-aggregate-complete
     slice-aggregate-complete-2

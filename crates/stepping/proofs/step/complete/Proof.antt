@@ -170,7 +170,7 @@ write-step-requires c κs =
         omega (arith, w.depth_long, k.depths),
         (omega (arith, w.discharge_long, k.discharges), omega (arith, w.net_long, k.interfaces, m.transport-when.auto.1.1.1.1.0)),
       ),
-      addable (reach s) k s.args.t s.pre.1.0.cfl _ _ _ _ w (carried m) (carried-transported m),
+      addable (reach s) k s.args.t s.pre.1.0.cfl _ _ _ _ w (carried m) (carried-transported m) (fine s),
     )
 
 -- ---- after all columns but that of the mass are written

@@ -106,7 +106,7 @@ sum-of-requires c κs =
     let p = (start k).requires.0 in
     let i = k.before.loop.i in
     let l : i ≤ (start k).args.n = omega (arith, (index k).0) in
-    rw (to_z-of_z (sfits_of c.before.sum-of-arg.given)) (p.carried i l)
+    rw (to_z-of_z (sfits_of c.before.sum-of-arg.given), to_z-of_z (sfits_of c.sum-of-arg2.given)) (p.carried i l, p.crossed i l)
 
 add-sum-of : tie.Need-overflow-add-sum-of invariant-loop decreases-loop
 add-sum-of c = let l = index c.before.before.before.before in omega (arith, l.1)
@@ -132,7 +132,7 @@ sum-of-requires-2 c κs =
     let p = (start k).requires.0 in
     let i = k.before.loop.i + 1 in
     let l : i ≤ (start k).args.n = omega (arith, (index k).0) in
-    rw (to_z-of_z (sfits_of c.before.sum-of-arg3.given)) (p.carried i l)
+    rw (to_z-of_z (sfits_of c.before.sum-of-arg3.given), to_z-of_z (sfits_of c.sum-of-arg4.given)) (p.carried i l, p.crossed i l)
 
 covers-requires : tie.Need-covers-requires invariant-loop decreases-loop
 covers-requires c κs =
