@@ -24,7 +24,7 @@ fn is_above(h: u64, v: u64, least: u64) -> bool
 }
 
 // The place of the greatest |u|+a, the highest among equals, and that speed
-#[derive(Drop)]
+#[derive(Clone, Copy)]
 pub struct Fastest {
     pub place: usize,
     pub speed: u64,

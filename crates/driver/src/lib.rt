@@ -14,7 +14,7 @@ use sheet::opening::open_sheet;
 
 // 0, or the number of the ground that refused the first opening; X, boundaries, ledger and outlets as the last call left them
 #[repr(C)]
-#[derive(Drop)]
+#[derive(Clone, Copy)]
 pub struct Replayed {
     pub refusal: u32,
     pub cell_length: u64,

@@ -23,7 +23,7 @@ pub fn friction_met()
 {}
 
 // The larger of x and 0 at both ends of ±16,000 and about 0 (document 02, point 5), as the code gives it
-#[derive(Drop)]
+#[derive(Clone, Copy)]
 pub struct PositiveParts {
     pub least: u64,
     pub below: u64,

@@ -9,7 +9,7 @@ use numbers::quotient::{Divisor, divisor_of, quotient};
 use numbers::signed::{joined, right_part};
 
 // A and B: of the speeds of a cell, those that go rightwards are lower..upper
-#[derive(Drop)]
+#[derive(Clone, Copy)]
 pub struct Rightgoing {
     pub upper: u64,
     pub lower: u64,
@@ -61,7 +61,7 @@ fn momentum_of(t: u64, x: u64, span: Divisor, h: u64, k: u64) -> u64
 }
 
 // W and Q of one side
-#[derive(Drop)]
+#[derive(Clone, Copy)]
 pub struct Fluxes {
     pub water: u64,
     pub momentum: u64,

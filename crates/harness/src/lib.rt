@@ -36,7 +36,7 @@ pub extern "C" fn harness_wave_speed(h: u64) -> u64
 
 // W, Q and S of one side of an interface
 #[repr(C)]
-#[derive(Drop)]
+#[derive(Clone, Copy)]
 pub struct Side {
     pub water: u64,
     pub momentum: u64,
@@ -61,7 +61,7 @@ pub extern "C" fn harness_side(t: u64, x: u64, h: u64, u: i64) -> Side
 
 // A and B of one side of an interface
 #[repr(C)]
-#[derive(Drop)]
+#[derive(Clone, Copy)]
 pub struct Rightgoing {
     pub upper: u64,
     pub lower: u64,

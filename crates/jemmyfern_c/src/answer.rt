@@ -15,14 +15,14 @@ use writing::write::WriteAnswer;
 
 // Both boundaries, left and right, as C passes them
 #[repr(C)]
-#[derive(Drop)]
+#[derive(Clone, Copy)]
 pub struct Boundaries {
     pub boundaries: [Boundary; 2],
 }
 
 // Of a transport, a setting of boundaries and a write
 #[repr(C)]
-#[derive(Drop)]
+#[derive(Clone, Copy)]
 pub struct Answer {
     pub refusal: u32,
     pub boundaries: [Boundary; 2],
@@ -30,7 +30,7 @@ pub struct Answer {
 }
 
 #[repr(C)]
-#[derive(Drop)]
+#[derive(Clone, Copy)]
 pub struct Opened {
     pub refusal: u32,
     pub cell_length: u64,
@@ -39,7 +39,7 @@ pub struct Opened {
 }
 
 #[repr(C)]
-#[derive(Drop)]
+#[derive(Clone, Copy)]
 pub struct Stepped {
     pub refusal: u32,
     pub boundaries: [Boundary; 2],
@@ -48,7 +48,7 @@ pub struct Stepped {
 }
 
 #[repr(C)]
-#[derive(Drop)]
+#[derive(Clone, Copy)]
 pub struct Greatest {
     pub refusal: u32,
     pub boundaries: [Boundary; 2],

@@ -24,7 +24,7 @@ pub fn floor_after(m: u64, b: u64, before: u64, part: u64, floor: u64) -> u64
 }
 
 // What leaves a cell over its right and over its left, and what is left then: its outlets' shares come after these two
-#[derive(Drop)]
+#[derive(Clone, Copy)]
 pub struct Shares {
     pub right: u64,
     pub left: u64,

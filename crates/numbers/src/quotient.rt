@@ -3,7 +3,7 @@ ghost use Rattle.std.specs.Prelude.{◌≡◌, ◌+◌, ◌*◌, ◌/◌, ◌≤
 ghost use Rattle.numbers.specs.Quotient.{DivisorFits};
 
 // A number, and floor((2^64 − 1) / it)
-#[derive(Drop)]
+#[derive(Clone, Copy)]
 pub struct Divisor {
     pub value: u64,
     pub reciprocal: u64,

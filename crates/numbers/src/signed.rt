@@ -4,7 +4,7 @@ ghost use Rattle.std.proofs.Math.IntN.{sub_ℕ};
 ghost use Rattle.numbers.specs.Signed.{positive};
 
 // A signed number right − left. Where each part is what its name says of a number, one of the two is 0.
-#[derive(Drop)]
+#[derive(Clone, Copy)]
 pub struct Parts {
     pub right: u64,
     pub left: u64,

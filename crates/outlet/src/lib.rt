@@ -8,7 +8,7 @@ ghost use Rattle.outlet.specs.Outlets.{no_outlet, no_outlets, over, loaded};
 
 // What an outlet draws in a step is depth of its cell, micrometres; its totals run since the opening
 #[repr(C)]
-#[derive(Drop)]
+#[derive(Clone, Copy)]
 pub struct Outlet {
     // counted from 0
     pub cell: u64,
@@ -27,7 +27,7 @@ pub const OUTLETS_MOST: usize = 32;
 
 // A lent list by value, as a call looks at it: how many were lent, and the first 32 of them
 #[repr(C)]
-#[derive(Drop)]
+#[derive(Clone, Copy)]
 pub struct Outlets {
     pub count: usize,
     pub list: [Outlet; 32],

@@ -16,7 +16,7 @@ use sheet::opening::open_sheet;
 use stepping::step::step;
 
 // 0 or the number of a refusal, and the boundaries and the ledger as the last call left them
-#[derive(Drop)]
+#[derive(Clone, Copy)]
 pub struct Ran {
     pub refusal: u32,
     pub held: Held,

@@ -6,7 +6,7 @@ pub mod call;
 use reach::held::Held;
 
 // What a call answered, and X, boundaries, ledger and outlets as it left them
-#[derive(Drop)]
+#[derive(Clone, Copy)]
 pub struct Played {
     pub refusal: u32,
     pub transported: bool,

@@ -7,7 +7,7 @@ use numbers::signed::magnitude;
 
 // Both boundaries travel as one value: [Boundary; 2], the left one first.
 #[repr(C)]
-#[derive(Drop)]
+#[derive(Clone, Copy)]
 pub struct Boundary {
     // 0 wall, 1 open, 2 fed
     pub kind: u32,
@@ -22,7 +22,7 @@ pub struct Boundary {
 }
 
 // Which of the two a boundary is
-#[derive(Drop)]
+#[derive(Clone, Copy)]
 pub enum BoundaryPlace {
     Left,
     Right,

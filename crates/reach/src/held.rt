@@ -11,7 +11,7 @@ use outlet::Outlets;
 
 // The boundaries held, the ledger and the outlets. A call is given them and hands them back, a refused one as they came.
 #[repr(C)]
-#[derive(Drop)]
+#[derive(Clone, Copy)]
 pub struct Held {
     // the left one first
     pub boundaries: [Boundary; 2],

@@ -4,7 +4,7 @@ ghost use Rattle.reach.specs.Grounds.{totals_fit, ledger_fits};
 
 // Water in micrometres of depth, mass in the paper's 'grains' (one micrometre of depth at concentration 1)
 #[repr(C)]
-#[derive(Drop)]
+#[derive(Clone, Copy)]
 pub struct Totals {
     pub water_in: u64,
     pub water_out: u64,
@@ -13,7 +13,7 @@ pub struct Totals {
 }
 
 #[repr(C)]
-#[derive(Drop)]
+#[derive(Clone, Copy)]
 pub struct Ledger {
     pub left: Totals,
     pub right: Totals,

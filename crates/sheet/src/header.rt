@@ -33,7 +33,7 @@ pub fn cell_length_of(s: &[u8]) -> u64
 }
 
 // Where each column starts
-#[derive(Drop)]
+#[derive(Clone, Copy)]
 pub struct Layout {
     pub beds: usize,
     pub depths: usize,

@@ -27,7 +27,7 @@ use reach::refusal::Check;
 // What an opening hands back: 0 or the number of its refusal, X in mm, both boundaries, an empty ledger, and the outlets that it was lent, cleared.
 // Of a refused opening the outlets are as they were lent, and all else but the number is 0.
 #[repr(C)]
-#[derive(Drop)]
+#[derive(Clone, Copy)]
 pub struct OpenAnswer {
     pub refusal: u32,
     pub cell_length: u64,

@@ -33,7 +33,7 @@ use transport::{BoundaryMass, check_room};
 // What a step hands back: 0 or the number of its refusal, the boundaries held, the ledger, and whether it transported first.
 // A refused step hands the boundaries and the ledger back as they came, and has not transported.
 #[repr(C)]
-#[derive(Drop)]
+#[derive(Clone, Copy)]
 pub struct StepAnswer {
     pub refusal: u32,
     pub held: Held,
@@ -118,7 +118,7 @@ fn write_step(
 }
 
 // What is held after the step, and the mass that enters where it transports first
-#[derive(Drop)]
+#[derive(Clone, Copy)]
 struct Booked {
     held: Held,
     crossed: BoundaryMass,

@@ -20,7 +20,7 @@ use water::{SideState, boundary_state, cell_state};
 // 0 or the number of the refusal; the boundaries and the ledger as they came; the greatest time step, ms; the place of the greatest
 // |u|+a, the highest among equals: 0 the left boundary, 1..n the cells, n+1 the right boundary
 #[repr(C)]
-#[derive(Drop)]
+#[derive(Clone, Copy)]
 pub struct GreatestAnswer {
     pub refusal: u32,
     pub held: Held,

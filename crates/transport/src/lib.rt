@@ -26,7 +26,7 @@ use reach::refusal::Check;
 // What a transport or a setting of boundaries hands back: 0 or the number of its refusal, the boundaries held from now on, and the ledger.
 // A refused call hands the boundaries and the ledger back as they came.
 #[repr(C)]
-#[derive(Drop)]
+#[derive(Clone, Copy)]
 pub struct TransportAnswer {
     pub refusal: u32,
     pub held: Held,
@@ -42,7 +42,7 @@ fn refused(k: Check, held: Held) -> TransportAnswer
 }
 
 // The mass that crosses both boundaries
-#[derive(Drop)]
+#[derive(Clone, Copy)]
 pub struct BoundaryMass {
     pub left_in: u64,
     pub left_out: u64,

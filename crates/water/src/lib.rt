@@ -22,7 +22,7 @@ use numbers::quotient::Divisor;
 use reach::boundary::{Boundary, BoundaryPlace, OPEN, WALL};
 
 // A cell, or a boundary beside one: bed level, depth, wave speed, and velocity right − left
-#[derive(Drop)]
+#[derive(Clone, Copy)]
 pub struct SideState {
     pub bed: i64,
     pub depth: u64,
@@ -82,7 +82,7 @@ fn thrust_lost(t: u64, x: u64, span: Divisor, h: u64, a: u64, reduced: u64, redu
 // What crosses an interface: W of the left side rightwards, W of the right side leftwards, P, and what the bed takes of either side's thrust,
 // S(h) − S(h*). N is rightward − leftward; of a cell, S(own h* at the right) − S(own h* at the left) is what is lost at its left less what is
 // lost at its right.
-#[derive(Drop)]
+#[derive(Clone, Copy)]
 pub struct Exchange {
     pub rightward: u64,
     pub leftward: u64,

@@ -21,7 +21,7 @@ use sheet::header::{HALF_4, HALF_8, HEADER_SIZE};
 
 // What a write hands back: 0 or the number of its refusal, and the boundaries, the ledger and the outlets as they came.
 #[repr(C)]
-#[derive(Drop)]
+#[derive(Clone, Copy)]
 pub struct WriteAnswer {
     pub refusal: u32,
     pub held: Held,
