@@ -1,0 +1,13 @@
+-- `numbers::columns::copy_first` meets its contract: `Written` says how far the column is written. Assumes nothing.
+use mathlib.Core.Path.{refl}
+use Prim.Native.Nat.{◌-◌, ◌≤◌}
+use native.Mathlib.Omega.{arith}
+use borrow.Author.Rules.{rules}
+use lib.ListN.{get_or}
+use Rattle.numbers.proofs.IndexLaws.{Written, written_none, written_more, written_all}
+use Rattle.numbers.proofs.columns.copy_first.Goals as goal
+
+pub returns : goal.returns
+returns c = let l = c.loop-i in
+    let a = c.args in
+    written_all 0 (λ k. get_or a.from.now k 0) a.to.now l.i l.to l.invariant.1 (omega arith)
