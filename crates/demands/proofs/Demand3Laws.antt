@@ -173,24 +173,24 @@ unfolding add_step add_water add_mass
 step_adds s t k = go (keeps_sums s t)
   where
     go : (b : Bool) → WaterAdded s t k (add_water (net_at s t 0) (net_at s t (cells s)) (cond b k (add_mass s k)))
-    go true = record { left_in = refl; left_out = refl; right_in_lem = refl; right_out = refl }
-    go false = record { left_in = refl; left_out = refl; right_in_lem = refl; right_out = refl }
+    go true = record { left_in = refl; left_out = refl; right_in = refl; right_out = refl }
+    go false = record { left_in = refl; left_out = refl; right_in = refl; right_out = refl }
 
 step_same : (s : Reach) (t : ℕ) (k : Ledger) → keeps_sums s t ≡ true → MassSame k (add_step s t k)
 unfolding add_step add_water
-step_same s t k e = rw e (record { left_in = refl; left_out = refl; right_in_lem = refl; right_out = refl })
+step_same s t k e = rw e (record { left_in = refl; left_out = refl; right_in = refl; right_out = refl })
 
 step_moves : (s : Reach) (t : ℕ) (k : Ledger) → keeps_sums s t ≡ false → MassAdded s k (add_step s t k)
 unfolding add_step add_water add_mass
-step_moves s t k e = rw e (record { left_in = refl; left_out = refl; right_in_lem = refl; right_out = refl })
+step_moves s t k e = rw e (record { left_in = refl; left_out = refl; right_in = refl; right_out = refl })
 
 mass_adds : (s : Reach) (k : Ledger) → MassAdded s k (add_mass s k)
 unfolding add_mass
-mass_adds s k = record { left_in = refl; left_out = refl; right_in_lem = refl; right_out = refl }
+mass_adds s k = record { left_in = refl; left_out = refl; right_in = refl; right_out = refl }
 
 mass_adds_no_water : (s : Reach) (k : Ledger) → WaterSame k (add_mass s k)
 unfolding add_mass
-mass_adds_no_water s k = record { left_in = refl; left_out = refl; right_in_lem = refl; right_out = refl }
+mass_adds_no_water s k = record { left_in = refl; left_out = refl; right_in = refl; right_out = refl }
 
 -- whether it is accepted or not
 water_same_if : (n : ℕ) (U T : Tally) → WaterSame T.sums U.sums → WaterSame T.sums (if_accepted n U T).sums
@@ -199,7 +199,7 @@ water_same_if n U T w = go (eqb n 0)
   where
     go : (b : Bool) → WaterSame T.sums (cond b U T).sums
     go true = w
-    go false = record { left_in = refl; left_out = refl; right_in_lem = refl; right_out = refl }
+    go false = record { left_in = refl; left_out = refl; right_in = refl; right_out = refl }
 
 unmoved_if : (n : ℕ) (T : Tally) → if_accepted n T T ≡ T
 unfolding if_accepted

@@ -108,13 +108,13 @@ AvailableFromZero = OfEveryStep GivesFromZero
 pub record WaterAdded (s : Reach) (t : ℕ) (k k' : Ledger) : Type 0 where
   pub left_in : k'.left.water_in ≡ k.left.water_in + positive (net_at s t 0)
   pub left_out : k'.left.water_out ≡ k.left.water_out + positive (neg_ℤ (net_at s t 0))
-  pub right_in_lem : k'.right.water_in ≡ k.right.water_in + positive (neg_ℤ (net_at s t (length s.bed)))
+  pub right_in : k'.right.water_in ≡ k.right.water_in + positive (neg_ℤ (net_at s t (length s.bed)))
   pub right_out : k'.right.water_out ≡ k.right.water_out + positive (net_at s t (length s.bed))
 
 pub record WaterSame (k k' : Ledger) : Type 0 where
   pub left_in : k'.left.water_in ≡ k.left.water_in
   pub left_out : k'.left.water_out ≡ k.left.water_out
-  pub right_in_lem : k'.right.water_in ≡ k.right.water_in
+  pub right_in : k'.right.water_in ≡ k.right.water_in
   pub right_out : k'.right.water_out ≡ k.right.water_out
 
 -- 'Each settling .., with the c and ends held before it: left nutrient in gains max(c(0),0) times the left concentration, left nutrient out the first cell's left share; right
@@ -122,13 +122,13 @@ pub record WaterSame (k k' : Ledger) : Type 0 where
 pub record MassAdded (s : Reach) (k k' : Ledger) : Type 0 where
   pub left_in : k'.left.mass_in ≡ k.left.mass_in + positive (get_or s.carried 0 (pos 0)) * (left_boundary s.held.boundaries).concentration
   pub left_out : k'.left.mass_out ≡ k.left.mass_out + left_share (mass_columns_of s) 0
-  pub right_in_lem : k'.right.mass_in ≡ k.right.mass_in + positive (neg_ℤ (get_or s.carried (length s.bed) (pos 0))) * (right_boundary s.held.boundaries).concentration
+  pub right_in : k'.right.mass_in ≡ k.right.mass_in + positive (neg_ℤ (get_or s.carried (length s.bed) (pos 0))) * (right_boundary s.held.boundaries).concentration
   pub right_out : k'.right.mass_out ≡ k.right.mass_out + right_share (mass_columns_of s) (length s.bed - 1)
 
 pub record MassSame (k k' : Ledger) : Type 0 where
   pub left_in : k'.left.mass_in ≡ k.left.mass_in
   pub left_out : k'.left.mass_out ≡ k.left.mass_out
-  pub right_in_lem : k'.right.mass_in ≡ k.right.mass_in
+  pub right_in : k'.right.mass_in ≡ k.right.mass_in
   pub right_out : k'.right.mass_out ≡ k.right.mass_out
 
 -- What a list makes of the tally, call by call (its own record moves as the program's: `own`, above): 'opening amounts are those of the sheet', 'its sums start at 0', 'ends held or set since are those of the sheet and of every accepted end

@@ -1,4 +1,3 @@
 pub mod OutletLaws
 pub mod ClearingLaws
 pub mod LentLaws
-pub mod lent

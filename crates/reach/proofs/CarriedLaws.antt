@@ -38,26 +38,26 @@ crossed_test a b c d e = go (eqb c d) refl
     go false p = ne_eqb a b (λ q. eqb-false c d p (omega arith))
 
 -- the tests by the parts of l and r
-pub carried_is : (h b : ℕ) (l r : ℤ) (ds : List ℕ) {left_inflow leftOut right_inflow rightOut drawn : ℕ} →
-    left_inflow ≡ R l → leftOut ≡ L l → right_inflow ≡ L r → rightOut ≡ R r → drawn ≡ sum ds →
+pub carried_is : (h b : ℕ) (l r : ℤ) (ds : List ℕ) {left_inflow left_outflow right_inflow right_outflow drawn : ℕ} →
+    left_inflow ≡ R l → left_outflow ≡ L l → right_inflow ≡ L r → right_outflow ≡ R r → drawn ≡ sum ds →
     carried_fits h b l r ds
     ≡ all_of
-    (leb (left_inflow + leftOut) depth_most
-    ∷ leb (right_inflow + rightOut) depth_most
-    ∷ eqb (h + leftOut + rightOut + drawn) (b + left_inflow + right_inflow)
-    ∷ leb (rightOut + leftOut + drawn) b
+    (leb (left_inflow + left_outflow) depth_most
+    ∷ leb (right_inflow + right_outflow) depth_most
+    ∷ eqb (h + left_outflow + right_outflow + drawn) (b + left_inflow + right_inflow)
+    ∷ leb (right_outflow + left_outflow + drawn) b
     ∷ [])
 unfolding carried_fits
-carried_is h b l r ds {left_inflow} {leftOut} {right_inflow} {rightOut} {drawn} p q s t d =
+carried_is h b l r ds {left_inflow} {left_outflow} {right_inflow} {right_outflow} {drawn} p q s t d =
     let y = pos b +ℤ l in
-    let left : nat_abs l ≡ left_inflow + leftOut = omega (arith, abs_parts l) in
-    let right : nat_abs r ≡ right_inflow + rightOut = omega (arith, abs_parts r) in
+    let left : nat_abs l ≡ left_inflow + left_outflow = omega (arith, abs_parts l) in
+    let right : nat_abs r ≡ right_inflow + right_outflow = omega (arith, abs_parts r) in
     let x = y -ℤ r -ℤ pos (sum ds) in
-    let balance : eqℤ (pos h) x ≡ eqb (h + leftOut + rightOut + drawn) (b + left_inflow + right_inflow) =
+    let balance : eqℤ (pos h) x ≡ eqb (h + left_outflow + right_outflow + drawn) (b + left_inflow + right_inflow) =
     eqℤ_is (pos h) x
-    ∙ same_test (h + L x) (R x + L (pos h)) (h + leftOut + rightOut + drawn) (b + left_inflow + right_inflow)
+    ∙ same_test (h + L x) (R x + L (pos h)) (h + left_outflow + right_outflow + drawn) (b + left_inflow + right_inflow)
     (omega (arith, minus_cross (y -ℤ r) (pos (sum ds)), minus_cross y r, add_cross (pos b) l, pos_cross b, pos_cross h, pos_cross (sum ds))) in
-    let out : outflow l r ds ≡ rightOut + leftOut + drawn = omega (arith, outflow_is l r ds) in
+    let out : outflow l r ds ≡ right_outflow + left_outflow + drawn = omega (arith, outflow_is l r ds) in
     rw (left, right, balance, out) refl
 
 -- ---- l in range: what is left to test, as the code does it

@@ -412,14 +412,14 @@ module _ (s : Reach) (k : Sound s) (t : ℕ) where
           go true p = small s k a b c o ((with_one y).transported p)
           go false p =
               let z = y.kept p in
-              record { left_in = omega (arith, z.0); left_out = omega (arith, z.1); right_in_lem = omega (arith, z.2); right_out = omega (arith, z.3) }
+              record { left_in = omega (arith, z.0); left_out = omega (arith, z.1); right_in = omega (arith, z.2); right_out = omega (arith, z.3) }
 
       module _ (a b c o : ℕ) (y : BoundaryMassWhen v (mass_columns_with s.mass s.base s.carried undrawn s.held.boundaries) a b c o) where
         abbrev x : BoundaryMassWhen v (mass_columns_of s) a b c o
         x = with_one y
 
         pub ready_when : v ≡ true → Ready (mass_columns s.mass s.base s.carried undrawn a c)
-        ready_when p = ready_entering s k (x.transported p).left_in (x.transported p).right_in_lem
+        ready_when p = ready_entering s k (x.transported p).left_in (x.transported p).right_in
 
         none : (l : Ledger) → ledger_with l 0 0 0 0 ≡ l
         unfolding ledger_with with_mass
@@ -454,7 +454,7 @@ module _ (s : Reach) (k : Sound s) (t : ℕ) where
           where
             go : (u : Bool) → keeps_sums s t ≡ u → cond (not u) (moved_mass (mass_columns s.mass s.base s.carried undrawn a c)) s.mass ≡ (cond u s (after_transport s)).mass
             go true p = refl
-            go false p = let z = x.transported (e ∙ ap not p) in moved_none s k z.left_in z.right_in_lem none
+            go false p = let z = x.transported (e ∙ ap not p) in moved_none s k z.left_in z.right_in none
 
         -- with outlets their part is taken off it: nothing where the sums are kept
         module _ (column : List ℕ) (is : column ≡ undrawn_mass) where
@@ -470,7 +470,7 @@ module _ (s : Reach) (k : Sound s) (t : ℕ) where
               go true p = stays (is ∙ rw (e, p) refl) (λ n l. step_mass n l ∙ mass_kept p n)
               go false p =
                   let z = x.transported (e ∙ ap not p) in
-                  moves a c z.left_in z.right_in_lem (is ∙ rw (e, p) refl) (λ n l. step_mass n l ∙ mass_moved p n ∙ shares_moved s k n l)
+                  moves a c z.left_in z.right_in (is ∙ rw (e, p) refl) (λ n l. step_mass n l ∙ mass_moved p n ∙ shares_moved s k n l)
 
           pub gained_when : Gained column os (step_outlets s t)
           gained_when = by_test (λ (l : List ℕ). Gained column os (step_outlets s t))

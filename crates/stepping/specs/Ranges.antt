@@ -31,9 +31,9 @@ sums_kept n c net h =
     all_below n (λ i. leb (positive (get_or c i (pos 0) +ℤ get_or net i (pos 0)) + positive (neg_ℤ (get_or c (i + 1) (pos 0) +ℤ get_or net (i + 1) (pos 0)))) (get_or h i 0))
 
 -- the mass that crosses both boundaries where the step transports, and none where it does not
-pub record BoundaryMassWhen (transports : Bool) (s : MassColumns) (left_inflow leftOut right_inflow rightOut : ℕ) : Type 0 where
-  pub transported : transports ≡ true → BoundaryMassOf s left_inflow leftOut right_inflow rightOut
-  pub kept : transports ≡ false → (left_inflow ≡ 0) × (leftOut ≡ 0) × (right_inflow ≡ 0) × (rightOut ≡ 0)
+pub record BoundaryMassWhen (transports : Bool) (s : MassColumns) (left_inflow left_outflow right_inflow right_outflow : ℕ) : Type 0 where
+  pub transported : transports ≡ true → BoundaryMassOf s left_inflow left_outflow right_inflow right_outflow
+  pub kept : transports ≡ false → (left_inflow ≡ 0) × (left_outflow ≡ 0) × (right_inflow ≡ 0) × (right_outflow ≡ 0)
 
 -- outlets that each have the amount at their place in `got`
 unfoldable pub outlet_with : Outlets → (got : List ℕ) → (k : ℕ) → Outlet

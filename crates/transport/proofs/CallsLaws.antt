@@ -103,7 +103,7 @@ module _ (s : Reach) (k : Sound s) where
       (record {
         left_in = x.left_in;
         left_out = x.left_out ∙ leftwards_undrawn s.mass s.base s.carried (drawn_from s.held.outlets) _ _ 0;
-        right_in_lem = x.right_in_lem;
+        right_in = x.right_in;
         right_out = x.right_out ∙ rightwards_undrawn s.mass s.base s.carried (drawn_from s.held.outlets) _ _ (length s.mass);
       })
 
@@ -158,13 +158,13 @@ module _ (s : Reach) (k : Sound s) where
       let n = length s.mass in record {
         left_in = omega (arith, x.left_in, entering_left_lem);
         left_out = omega (arith, x.left_out, leftwards_small (mass_columns_of s) 0 (ready.each 0) (omega arith));
-        right_in_lem = omega (arith, x.right_in_lem, entering_right_lem);
+        right_in = omega (arith, x.right_in, entering_right_lem);
         right_out = omega (arith, x.right_out, rightwards_small (mass_columns_of s) ready n (omega arith));
       }
 
   pub ledger_is : (a b c d : ℕ) → BoundaryMassOf (mass_columns_of s) a b c d → ledger_with s.held.ledger a b c d ≡ transport_ledger s
   unfolding transport_ledger
-  ledger_is a b c d x = rw (x.left_in, x.left_out, x.right_in_lem, x.right_out, k.masses) refl
+  ledger_is a b c d x = rw (x.left_in, x.left_out, x.right_in, x.right_out, k.masses) refl
 
 -- ---- what each outcome is
 

@@ -30,8 +30,8 @@ with_mass t gained lost =
     record { water_in = t.water_in; water_out = t.water_out; mass_in = t.mass_in + gained; mass_out = t.mass_out + lost }
 
 -- a ledger with the mass that a transport takes over both boundaries
-unfoldable pub ledger_with : Ledger → (left_inflow leftOut right_inflow rightOut : ℕ) → Ledger
-ledger_with k left_inflow leftOut right_inflow rightOut = record { left = with_mass k.left left_inflow leftOut; right = with_mass k.right right_inflow rightOut }
+unfoldable pub ledger_with : Ledger → (left_inflow left_outflow right_inflow right_outflow : ℕ) → Ledger
+ledger_with k left_inflow left_outflow right_inflow right_outflow = record { left = with_mass k.left left_inflow left_outflow; right = with_mass k.right right_inflow right_outflow }
 
 -- boundary mass (the paper's 'end nutrient') goes into the ledger: in, what enters; out, the first cell's left share and the last cell's right share
 unfoldable pub transport_ledger : Reach → Ledger

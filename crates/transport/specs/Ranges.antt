@@ -16,18 +16,18 @@ mass_columns_with m b c drawn es =
     (positive (neg_ℤ (get_or c (length m) (pos 0))) * (right_boundary es).concentration)
 
 -- the mass that crosses both boundaries, in and out
-pub record BoundaryMassOf (s : MassColumns) (left_inflow leftOut right_inflow rightOut : ℕ) : Type 0 where
+pub record BoundaryMassOf (s : MassColumns) (left_inflow left_outflow right_inflow right_outflow : ℕ) : Type 0 where
   pub left_in : left_inflow ≡ s.left_inflow
-  pub left_out : leftOut ≡ leftwards s 0
-  pub right_in_lem : right_inflow ≡ s.right_inflow
-  pub right_out : rightOut ≡ rightwards s (length s.mass)
+  pub left_out : left_outflow ≡ leftwards s 0
+  pub right_in : right_inflow ≡ s.right_inflow
+  pub right_out : right_outflow ≡ rightwards s (length s.mass)
 
 -- and that none of it is more than a full cell holds
-pub record Small (left_inflow leftOut right_inflow rightOut : ℕ) : Type 0 where
+pub record Small (left_inflow left_outflow right_inflow right_outflow : ℕ) : Type 0 where
   pub left_in : left_inflow ≤ mass_most
-  pub left_out : leftOut ≤ mass_most
-  pub right_in_lem : right_inflow ≤ mass_most
-  pub right_out : rightOut ≤ mass_most
+  pub left_out : left_outflow ≤ mass_most
+  pub right_in : right_inflow ≤ mass_most
+  pub right_out : right_outflow ≤ mass_most
 
 abbrev pub answer : ℕ → Held → TransportAnswer
 answer n k = record { refusal = n; held = k }

@@ -34,7 +34,7 @@ start c = c.before.before.before.before.before.before.before.before
 abbrev reach : tie.At-loop invariant-loop decreases-loop → Reach
 reach c =
     let l = c.loop in
-    reach_of l.bed l.depth l.discharge l.mass l.base l.carried l.cell_length_lem l.current
+    reach_of l.bed l.depth l.discharge l.mass l.base l.carried l.cell_length l.current
 
 loop-holds : tie.Need-loop-init invariant-loop decreases-loop
 loop-holds c =

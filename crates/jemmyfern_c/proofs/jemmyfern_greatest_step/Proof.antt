@@ -19,7 +19,7 @@ greatest-answer-requires c κs = search rules
 
 returns : tie.Need-returns
 returns c =
-    greatest_returns _ _ _ _ _ _ _ _ _ _ _ _ _ _ c.before.before.before.load.ensures c.before.before.given-held.ensures c.before.greatest_step_lem.ensures c.greatest-answer.ensures
+    greatest_returns _ _ _ _ _ _ _ _ _ _ _ _ _ _ c.before.before.before.load.ensures c.before.before.given-held.ensures c.before.greatest_step.ensures c.greatest-answer.ensures
 
 pub jemmyfern_greatest_step_spec : {M : Type 1} → statement M
 jemmyfern_greatest_step_spec =

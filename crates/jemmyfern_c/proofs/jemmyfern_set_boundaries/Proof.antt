@@ -40,7 +40,7 @@ returns c =
     let roomed = c.before.before.before.before in
     let called = roomed.before.before.before.before.before.before in
     let holding = called.before.before.before.before.before in
-    setting_returns _ _ _ _ _ _ _ _ _ _ _ _ _ _ _ _ _ _ _ _ holding.before.load.ensures holding.given-held.ensures called.set_boundaries_lem.ensures roomed.room_of.ensures c.before.before.store.ensures c.transport-answer.ensures
+    setting_returns _ _ _ _ _ _ _ _ _ _ _ _ _ _ _ _ _ _ _ _ holding.before.load.ensures holding.given-held.ensures called.set_boundaries.ensures roomed.room_of.ensures c.before.before.store.ensures c.transport-answer.ensures
 
 pub jemmyfern_set_boundaries_spec : {M : Type 1} → statement M
 jemmyfern_set_boundaries_spec =

@@ -15,15 +15,15 @@ use Rattle.mass.proofs.move_mass.Statement.{statement}
 use Rattle.mass.proofs.move_mass.Tie as tie
 
 abbrev invariant-loop : tie.invariant-loop
-invariant-loop m₀ b c left_in right_in_lem n held₀ right₀ i₀ m held right i =
-    let s = mass_columns m₀ b c undrawn left_in right_in_lem in
+invariant-loop m₀ b c left_in right_in n held₀ right₀ i₀ m held right i =
+    let s = mass_columns m₀ b c undrawn left_in right_in in
     (i < n) × Written 0 (moved_cell s) m₀ i m × (held ≡ stayed s i + rightwards s i) × (right ≡ right_share s i)
 
 abbrev decreases-loop : tie.decreases-loop
-decreases-loop m₀ b c left_in right_in_lem n held₀ right₀ i₀ m held right i = n - i
+decreases-loop m₀ b c left_in right_in n held₀ right₀ i₀ m held right i = n - i
 
 abbrev col : tie.Start invariant-loop decreases-loop → MassColumns
-col s = mass_columns s.args.mass.now s.args.base.now s.args.carried.now undrawn s.args.left_in s.args.right_in_lem
+col s = mass_columns s.args.mass.now s.args.base.now s.args.carried.now undrawn s.args.left_in s.args.right_in
 
 -- ---- the first cell
 

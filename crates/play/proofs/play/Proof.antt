@@ -111,7 +111,7 @@ returns c =
     let s = entry w in
     let n : (opened w).refusal ≡ 0 → ⊥ = λ z. c.before.if1.true ((opened-to w).refusal_is ∙ z) in
     rw (not_opened (sheet s) (columns s) s.args.count s.args.t n)
-    (left _ _ _ _ _ _ _ (c.came_to_lem.ensures.0 ∙ (opened-to w).refusal_is) c.came_to_lem.ensures.1 (left_by_opening (opened-to w)))
+    (left _ _ _ _ _ _ _ (c.came_to.ensures.0 ∙ (opened-to w).refusal_is) c.came_to.ensures.1 (left_by_opening (opened-to w)))
 
 check-count-requires : tie.Need-check-count-requires
 check-count-requires c κs = search rules

@@ -30,10 +30,10 @@ left_in c =
     ap (λ (k : ℕ). k * (left_boundary (first c).args.t4).concentration)
     (rw (to_z-of_z (sfits_of c.before.right-part-arg.given)) at c.right-part.ensures)
 
-right_in_lem : (c : tie.After-left-part) →
+right_in : (c : tie.After-left-part) →
     c.left-part.result * (right_boundary (second c).args.t4).concentration
     ≡ (col (second c)).right_inflow
-right_in_lem c =
+right_in c =
     ap (λ (k : ℕ). k * (right_boundary (second c).args.t4).concentration)
     (rw (to_z-of_z (sfits_of c.before.left-part-arg.given)) at c.left-part.ensures)
 
@@ -62,7 +62,7 @@ element-copy-out-right-in : tie.Need-element-copy-out-right-in
 element-copy-out-right-in c = search rules
 
 mul-right-in : tie.Need-overflow-mul-right-in
-mul-right-in c = rw (right_in_lem c) (Fits-below tt ((second c).requires.0.each 0).entering)
+mul-right-in c = rw (right_in c) (Fits-below tt ((second c).requires.0.each 0).entering)
 
 shares-at-requires : tie.Need-shares-at-requires
 shares-at-requires c κs =
@@ -86,7 +86,7 @@ returns c =
     record {
       left_in = left_in c.before.before.before.before;
       left_out = ap left_of (c.before.shares_at.ensures.0 ∙ shares_inside x 0) ∙ sym (leftwards_cell x 0 (omega arith));
-      right_in_lem = right_in_lem c.before.before;
+      right_in = right_in c.before.before;
       right_out = ap right_of (c.shares-at2.ensures.0 ∙ shares_inside x (n - 1)) ∙ sym (rightwards_next x (n - 1)) ∙ ap (rightwards x) last;
     }
 

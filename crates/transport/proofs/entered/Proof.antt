@@ -16,7 +16,7 @@ with-mass-requires-2 : tie.Need-with-mass-requires-2
 with-mass-requires-2 c κs =
     let s = c.before.before.before in
     let t = totals_sound _ (ledger_right _ s.requires.0) in
-    (t.total_mass_in, (t.total_mass_out, (s.requires.1.right_in_lem, s.requires.1.right_out)))
+    (t.total_mass_in, (t.total_mass_out, (s.requires.1.right_in, s.requires.1.right_out)))
 
 returns : tie.Need-returns
 unfolding ledger_with

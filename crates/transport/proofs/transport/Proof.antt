@@ -18,7 +18,7 @@ same-length-3 c = search rules
 
 returns : tie.Need-returns
 returns c =
-    let k = c.before.before.before.before.before.set_boundaries_lem in
+    let k = c.before.before.before.before.before.set_boundaries in
     rw (transport_is _) k.ensures
 
 pub transport_spec : {M : Type 1} → statement M

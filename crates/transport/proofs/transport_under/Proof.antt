@@ -117,7 +117,7 @@ commit-requires c κs =
     let s = start m in
     let k = checked s in
     let x = crossed m.before.before.before.before.before in
-    (ready_entering (reach s) k x.left_in x.right_in_lem, omega (arith, k.bases, k.depths))
+    (ready_entering (reach s) k x.left_in x.right_in, omega (arith, k.bases, k.depths))
 
 -- ---- after what moves by the sides
 
@@ -162,14 +162,14 @@ returns-2 c =
     let d = c.before.before.before.before.before.before.before in
     let s = start (moved d) in
     let x = crossed (moved d).before.before.before.before.before in
-    came d _ (d.commit.ensures.0 ∙ moved_none (reach s) (checked s) x.left_in x.right_in_lem c.if1.true)
+    came d _ (d.commit.ensures.0 ∙ moved_none (reach s) (checked s) x.left_in x.right_in c.if1.true)
 
 take-gains-requires : tie.Need-take-gains-requires
 take-gains-requires c κs =
     let d = c.before.before.before.before.before.before.before.before in
     let s = start (moved d) in
     let x = crossed (moved d).before.before.before.before.before in
-    gained_entering (reach s) (checked s) x.left_in x.right_in_lem (moved d).move-outlets.result (shared (moved d)) _ d.commit.ensures.0
+    gained_entering (reach s) (checked s) x.left_in x.right_in (moved d).move-outlets.result (shared (moved d)) _ d.commit.ensures.0
 
 same-length-7 : tie.Need-same-length-7
 same-length-7 c = search rules
@@ -186,7 +186,7 @@ returns-3 c =
     let d = t.before.before.before.before.before.before.before.before.before in
     let s = start (moved d) in
     let x = crossed (moved d).before.before.before.before.before in
-    came d _ (t.take-gains.ensures ∙ taken_entering (reach s) (checked s) x.left_in x.right_in_lem (moved d).move-outlets.result (shared (moved d)) _ d.commit.ensures.0)
+    came d _ (t.take-gains.ensures ∙ taken_entering (reach s) (checked s) x.left_in x.right_in (moved d).move-outlets.result (shared (moved d)) _ d.commit.ensures.0)
 
 pub transport_under_spec : {M : Type 1} → statement M
 transport_under_spec =

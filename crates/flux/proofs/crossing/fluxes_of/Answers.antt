@@ -44,6 +44,6 @@ pub returns : goal.returns
 returns c =
     let e = c.rightgoing_of-s.ensures in
     let k = ap (λ (k : ℕ). momentum_of c.args.t c.args.x c.args.h k) c.second_moment.ensures in (
-      c.water_of_lem.ensures ∙ water_flux_of _ _ c.requires.1.1 e.0 e.1,
+      c.water_of.ensures ∙ water_flux_of _ _ c.requires.1.1 e.0 e.1,
       c.momentum_of.ensures ∙ k ∙ momentum_flux_of _ _ c.requires.1.1 e.0 e.1,
     )

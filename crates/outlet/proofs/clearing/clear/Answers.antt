@@ -17,7 +17,7 @@ put n l = record { count = n; list = l }
 
 -- the list is an array of 32
 list-long : (s : Start) → length s.args.outlets.list ≡ 32
-list-long s = sym (length-map s.args.outlets.list _) ∙ s.well-formed.0.1.1.1.0.1.0.1
+list-long s = s.well_formed.0.1.1.1.0.1.0.1
 
 pub returns : goal.returns
 unfolding cleared each_outlet

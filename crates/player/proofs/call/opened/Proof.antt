@@ -7,7 +7,7 @@ came-to-requires : tie.Need-came-to-requires
 came-to-requires c κs = search rules
 
 returns : tie.Need-returns
-returns c = ((λ n. c.came_to_lem.ensures), (λ e. absurd (c.before.if1.true e)))
+returns c = ((λ n. c.came_to.ensures), (λ e. absurd (c.before.if1.true e)))
 
 came-to-requires-2 : tie.Need-came-to-requires-2
 came-to-requires-2 c κs = search rules

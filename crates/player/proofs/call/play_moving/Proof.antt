@@ -100,7 +100,7 @@ returns-2 : tie.Need-returns-2
 returns-2 c sheets room out =
     let s = c.before.before.before.before.before.before.before.before.before.before.before.before.before.before.before.before.before.before.before.before.before in
     let a = s.args in
-    rw (is_transport a.words.now sheets room a.at c.before.before.before.before.before.before.before.before.before.before.before.before.before.if2.true, c.came_to_lem.ensures) (plays_transport (given s) (free_at a.words.now a.at) (rw c.before.before.before.before.before.before.before.before.before.before.before.before.before.before.before.before.with-wants.ensures at c.before.before.before.before.before.before.before.transport.ensures) out)
+    rw (is_transport a.words.now sheets room a.at c.before.before.before.before.before.before.before.before.before.before.before.before.before.if2.true, c.came_to.ensures) (plays_transport (given s) (free_at a.words.now a.at) (rw c.before.before.before.before.before.before.before.before.before.before.before.before.before.before.before.before.with-wants.ensures at c.before.before.before.before.before.before.before.transport.ensures) out)
 
 boundaries-from-requires : tie.Need-boundaries-from-requires
 boundaries-from-requires c κs = search rules
@@ -130,7 +130,7 @@ returns-3 : tie.Need-returns-3
 returns-3 c sheets room out =
     let s = c.before.before.before.before.before.before.before.before.before.before.before.before.before.before.before.before.before.before.before.before.before.before in
     let a = s.args in
-    let e = rw (c.before.before.before.before.before.before.before.before.before.before.before.before.before.boundaries-from.ensures, c.before.before.before.before.before.before.before.before.before.before.before.before.before.before.before.before.before.with-wants.ensures) at c.before.before.before.before.before.before.before.set_boundaries_lem.ensures in
+    let e = rw (c.before.before.before.before.before.before.before.before.before.before.before.before.before.boundaries-from.ensures, c.before.before.before.before.before.before.before.before.before.before.before.before.before.before.before.before.before.with-wants.ensures) at c.before.before.before.before.before.before.before.set_boundaries.ensures in
     rw (is_setting a.words.now sheets room a.at (third c.before.before.before.before.before.before.before.before.before.before.before.before.before.before), c.came-to2.ensures) (plays_setting (given s) (free_at a.words.now a.at) _ e out)
 
 pub play_moving_spec : {M : Type 1} → statement M

@@ -41,7 +41,7 @@ returns : tie.Need-returns
 returns c sheets =
     let s = c.before.before.before.before.before.before.before.before.before.before in
     let a = s.args in
-    rw (is_greatest a.words.now sheets (length a.out.now) a.at c.before.before.if1.true) (plays_greatest (given s) (free_at a.words.now a.at) (rw c.before.before.before.before.with-wants.ensures at c.before.greatest_step_lem.ensures) a.out.now)
+    rw (is_greatest a.words.now sheets (length a.out.now) a.at c.before.before.if1.true) (plays_greatest (given s) (free_at a.words.now a.at) (rw c.before.before.before.before.with-wants.ensures at c.before.greatest_step.ensures) a.out.now)
 
 add-asked : tie.Need-overflow-add-asked
 add-asked c = search rules
@@ -75,7 +75,7 @@ returns-2 c sheets =
     let s = c.before.before.before.before.before.before.before.before.before.before.before.before.before.before.before.before in
     let a = s.args in
     let l = c.before.before.before.before.before.before in
-    rw (is_write a.words.now sheets (length a.out.now) a.at (fourth c.before.before.before.before.before.before.before.before), sym l.least.ensures, c.came_to_lem.ensures)
+    rw (is_write a.words.now sheets (length a.out.now) a.at (fourth c.before.before.before.before.before.before.before.before), sym l.least.ensures, c.came_to.ensures)
     (plays_write (given s) (free_at a.words.now a.at) _ a.out.now _ (sym (taken_length _ _ (within l))) (rw c.before.before.before.before.before.before.before.before.before.before.with-wants.ensures at c.before.before.before.before.write-sheet.ensures))
 
 pub play_reading_spec : {M : Type 1} → statement M

@@ -24,13 +24,13 @@ abbrev decreases-loop : tie.decreases-loop
 decreases-loop z h q m b n i₀ i = n - i
 
 cell-is : (c : tie.After-cell-fits invariant-loop decreases-loop) → (let s = c.before.before.before.before.before.before.before.before.before.before.before.args in
-    c.cell_fits_lem.result ≡ cell_fits_at s.bed.now s.depth.now s.discharge.now s.mass.now s.base.now c.before.before.before.before.before.before.before.loop.i)
+    c.cell_fits.result ≡ cell_fits_at s.bed.now s.depth.now s.discharge.now s.mass.now s.base.now c.before.before.before.before.before.before.before.loop.i)
 cell-is c =
     let s = c.before.before.before.before.before.before.before.before.before.before.before.args in
     let i = c.before.before.before.before.before.before.before.loop.i in
     let bed = to_z-of_z {w = w64} {z = get_or s.bed.now i (pos 0)} (sfits_of c.before.before.before.before.before.cell-fits-arg.given) in
     let discharge = to_z-of_z {w = w64} {z = get_or s.discharge.now i (pos 0)} (sfits_of c.before.before.before.cell-fits-arg2.given) in
-    rw (bed, discharge) at c.cell_fits_lem.ensures
+    rw (bed, discharge) at c.cell_fits.ensures
 
 loop-holds : tie.Need-loop-init invariant-loop decreases-loop
 loop-holds c = (search rules, all_none _)

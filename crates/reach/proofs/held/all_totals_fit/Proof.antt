@@ -15,7 +15,7 @@ ledger-fits-requires c κs = search rules
 
 returns : tie.Need-returns
 unfolding all_totals_fit
-returns c = sym (off _ _ (sym c.before.ledger_fits_lem.ensures ∙ not-true _ c.if1.true))
+returns c = sym (off _ _ (sym c.before.ledger_fits.ensures ∙ not-true _ c.if1.true))
 
 -- of no outlet
 none : (n : ℕ) (f : ℕ → Bool) → n ≡ 0 → all_below n f ≡ true
@@ -24,14 +24,14 @@ none n f e = rw e refl
 
 returns-2 : tie.Need-returns-2
 unfolding all_totals_fit
-returns-2 c = sym (on _ _ (sym c.before.before.before.ledger_fits_lem.ensures ∙ not-false _ c.before.before.if1.false) (only _ ∙ none _ _ c.if2.true))
+returns-2 c = sym (on _ _ (sym c.before.before.before.ledger_fits.ensures ∙ not-false _ c.before.before.if1.false) (only _ ∙ none _ _ c.if2.true))
 
 each-totals-fit-requires : tie.Need-each-totals-fit-requires
 each-totals-fit-requires c κs = search rules
 
 returns-3 : tie.Need-returns-3
 unfolding all_totals_fit
-returns-3 c = c.each-totals-fit.ensures ∙ sym (on _ _ (sym c.before.before.before.before.before.ledger_fits_lem.ensures ∙ not-false _ c.before.before.before.before.if1.false) (only _))
+returns-3 c = c.each-totals-fit.ensures ∙ sym (on _ _ (sym c.before.before.before.before.before.ledger_fits.ensures ∙ not-false _ c.before.before.before.before.if1.false) (only _))
 
 pub all_totals_fit_spec : {M : Type 1} → statement M
 all_totals_fit_spec = tie.close (tie.spec ledger-fits-requires returns returns-2 each-totals-fit-requires returns-3)

@@ -60,10 +60,10 @@ ledger-fits-requires : tie.Need-ledger-fits-requires
 ledger-fits-requires c κs = search rules
 
 returns-3 : tie.Need-returns-3
-returns-3 c = sym (after-walls c.before.before ∙ stop_at _ _ (sym c.before.ledger_fits_lem.ensures ∙ not-true _ c.if2.true))
+returns-3 c = sym (after-walls c.before.before ∙ stop_at _ _ (sym c.before.ledger_fits.ensures ∙ not-true _ c.if2.true))
 
 returns-4 : tie.Need-returns-4
-returns-4 c = passes 9 (sym c.before.ledger_fits_lem.ensures ∙ not-false _ c.if2.false) ∙ sym (after-walls c.before.before ∙ last_one 9 _)
+returns-4 c = passes 9 (sym c.before.ledger_fits.ensures ∙ not-false _ c.if2.false) ∙ sym (after-walls c.before.before ∙ last_one 9 _)
 
 pub check_plain_spec : {M : Type 1} → statement M
 check_plain_spec =

@@ -72,13 +72,13 @@ first_fits : (c : tie.After-within invariant-loop decreases-loop) → c.within.r
 first_fits c = rw (to_z-of_z (sfits_of c.before.left.given)) at c.within.ensures
 
 cell-is : (c : tie.After-cell-fits invariant-loop decreases-loop) → (let s = (entry (turn c)).args in
-    c.cell_fits_lem.result ≡ cell_fits_at s.bed.now s.depth.now s.discharge.now s.mass.now s.base.now (turn c).loop.i)
+    c.cell_fits.result ≡ cell_fits_at s.bed.now s.depth.now s.discharge.now s.mass.now s.base.now (turn c).loop.i)
 cell-is c =
     let s = (entry (turn c)).args in
     let i = (turn c).loop.i in
     let bed = to_z-of_z {w = w64} {z = get_or s.bed.now i (pos 0)} (sfits_of c.before.before.before.cell-fits-arg.given) in
     let discharge = to_z-of_z {w = w64} {z = get_or s.discharge.now i (pos 0)} (sfits_of c.before.before.cell-fits-arg2.given) in
-    rw (bed, discharge) at c.cell_fits_lem.ensures
+    rw (bed, discharge) at c.cell_fits.ensures
 
 -- the cell stood ground 7
 cell_fits_lem : (c : tie.Else1 invariant-loop decreases-loop) → (let s = (entry (turn c.before)).args in

@@ -20,7 +20,7 @@ decreases-loop words at count n list₀ k₀ list k = n - k
 
 -- the list is an array of 32
 list-long : (s : tie.Start invariant-loop decreases-loop) → length s.args.outlets.list ≡ 32
-list-long s = sym (length-map s.args.outlets.list _) ∙ s.well-formed.1.1.0.1.1.1.0.1.0.1
+list-long s = sym (length-map s.args.outlets.list _) ∙ s.well_formed.1.1.0.1.1.1.0.1.0.1
 
 least-requires : tie.Need-least-requires invariant-loop decreases-loop
 least-requires c κs = search rules

@@ -66,7 +66,7 @@ returns c =
     let s = c.before.before.before.before.before.before.before.before.before.before.args in
     let z = c.before.before.before.before.before in
     let q = c.before.before.before in
-    rw (to_z-of_z (sfits_of z.read-signed.type-inv), to_z-of_z (sfits_of q.read-signed2.type-inv)) at c.cell_fits_lem.ensures
+    rw (to_z-of_z (sfits_of z.read-signed.type-inv), to_z-of_z (sfits_of q.read-signed2.type-inv)) at c.cell_fits.ensures
     ∙ cell_at_is s.s.now s.l s.i z.read-signed.ensures c.before.before.before.before.before.before.before.read_number.ensures.0 q.read-signed2.ensures c.before.read-number2.ensures.0
 
 pub cell_at_spec : {M : Type 1} → statement M

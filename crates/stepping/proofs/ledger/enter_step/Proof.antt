@@ -76,7 +76,7 @@ with-mass-requires-2 : tie.Need-with-mass-requires-2
 with-mass-requires-2 c κs =
     let p = c.before.before.before.requires.0 in
     let t = totals_sound _ (ledger_right _ p.0) in
-    (t.total_mass_in, (t.total_mass_out, (p.1.right_in_lem, p.1.right_out)))
+    (t.total_mass_in, (t.total_mass_out, (p.1.right_in, p.1.right_out)))
 
 right-part-requires : tie.Need-right-part-requires
 right-part-requires c κs = search rules

@@ -26,7 +26,7 @@ entry c = c.before.before.before
 
 -- the list is an array of 32
 list-long : (s : tie.Start invariant-loop decreases-loop) → length s.args.outlets.list ≡ 32
-list-long s = sym (length-map s.args.outlets.list _) ∙ s.well-formed.0.1.1.1.0.1.0.1
+list-long s = sym (length-map s.args.outlets.list _) ∙ s.well_formed.0.1.1.1.0.1.0.1
 
 -- the outlet at hand has not been written yet
 here : (c : tie.In-loop invariant-loop decreases-loop) → get_or c.before.loop.list c.before.loop.k no_outlet ≡ outlet_at (entry c).args.outlets c.before.loop.k

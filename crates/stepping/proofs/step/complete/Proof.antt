@@ -39,7 +39,7 @@ whole s = sound (reach s) s.args.held.boundaries s.requires.0
 fine : (s : tie.Start) → Mesh s.args.t s.args.x
 fine s = mesh (reach s) (whole s) s.args.t s.requires.1.0.time
 
-found : (s : tie.Start) → StepFound (reach s) s.args.t s.args.f s.args.net.now s.args.new_depth_lem.now s.args.new-discharge.now s.args.got
+found : (s : tie.Start) → StepFound (reach s) s.args.t s.args.f s.args.net.now s.args.new_depth.now s.args.new-discharge.now s.args.got
 found s = s.requires.1.1
 
 -- ---- from place to place

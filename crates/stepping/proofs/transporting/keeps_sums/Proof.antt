@@ -70,14 +70,14 @@ turn c = c.before.before.before.before.before.before.before
 
 cell-is : (c : tie.After-covers invariant-loop decreases-loop) →
     let k = turn (summed c) in
-    c.covers.result ≡ covered_at (start k).args.carried.now (start k).args.net.now (start k).args.new_depth_lem.now k.before.loop.i
+    c.covers.result ≡ covered_at (start k).args.carried.now (start k).args.net.now (start k).args.new_depth.now k.before.loop.i
 cell-is c =
     let m = summed c in
     let k = turn m in
     let i = k.before.loop.i in
     let l = m.before.before.before in
     let e = rw (to_z-of_z (sfits_of l.sum_of.ok), to_z-of_z (sfits_of m.sum-of2.ok)) at c.covers.ensures in
-    e ∙ ap₂ (λ (y z : ℤ). leb (positive y + positive (neg_ℤ z)) (get_or (start k).args.new_depth_lem.now i 0)) (left-sum l) (right-sum m)
+    e ∙ ap₂ (λ (y z : ℤ). leb (positive y + positive (neg_ℤ z)) (get_or (start k).args.new_depth.now i 0)) (left-sum l) (right-sum m)
 
 loop-holds : tie.Need-loop-init invariant-loop decreases-loop
 loop-holds c = (omega arith, all_none _)
