@@ -11,8 +11,7 @@ use Rattle.numbers.specs.Index.{all_of, all_below}
 use Rattle.numbers.proofs.IndexLaws.{all_of_lem, all_at}
 use Rattle.friction.specs.Friction.{table_most, Roots}
 use Rattle.friction.proofs.FrictionLaws.{four_thirds_is}
-use Rattle.friction.proofs.table.four_thirds.Statement.{statement}
-use Rattle.friction.proofs.table.four_thirds.Tie as tie
+use Rattle.friction.proofs.table.four_thirds.Goals as goal
 
 roots : List ℕ
 roots =
@@ -58,9 +57,6 @@ rule = record {
       let f = fits_at k l in sym (four_thirds_is k (get_or roots k 0) (leb-true _ _ (all_of_lem _ f 0)) (ltb-true _ _ (all_of_lem _ f 1)));
 }
 
-returns : tie.Need-returns
+pub returns : goal.returns
 unfolding roots
 returns c = rule
-
-pub four_thirds_spec : {M : Type 1} → statement M
-four_thirds_spec = tie.close (tie.spec returns)
