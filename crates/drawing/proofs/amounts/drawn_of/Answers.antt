@@ -1,0 +1,15 @@
+-- `drawing::amounts::drawn_of` meets its contract. Assumes nothing.
+use mathlib.Core.Path.{◌≡◌}
+use Prim.Native.Nat.{◌-◌, ◌≤◌, ◌<◌, min}
+use native.Mathlib.Omega.{arith}
+use borrow.Author.Rules.{rules}
+use lib.ListN.{get_or}
+use Rattle.numbers.proofs.IndexLaws.{Written, written_none, written_more, written_all}
+use Rattle.outlet.specs.Outlets.{no_outlet}
+use Rattle.drawing.proofs.amounts.drawn_of.Goals as goal
+
+pub returns : goal.returns
+returns c =
+    let l = c.loop-k in
+    let full : l.k ≡ 32 = omega arith in
+    written_all 0 _ _ l.k l.r l.invariant.1 full

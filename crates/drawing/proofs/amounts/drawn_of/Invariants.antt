@@ -1,0 +1,14 @@
+use mathlib.Core.Path.{◌≡◌}
+use Prim.Native.Nat.{◌-◌, ◌≤◌, ◌<◌, min}
+use native.Mathlib.Omega.{arith}
+use borrow.Author.Rules.{rules}
+use lib.ListN.{get_or}
+use Rattle.numbers.proofs.IndexLaws.{Written, written_none, written_more, written_all}
+use Rattle.outlet.specs.Outlets.{no_outlet}
+use Rattle.drawing.proofs.amounts.drawn_of.Given as goal
+
+abbrev pub invariant-loop-k : goal.invariant-loop-k
+invariant-loop-k l = (l.k ≤ 32) × Written 0 (λ j. min (get_or l.list j no_outlet).drawn 4_000_001) l.initial.r l.k l.r
+
+abbrev pub decreases-loop-k : goal.decreases-loop-k
+decreases-loop-k l = 32 - l.k

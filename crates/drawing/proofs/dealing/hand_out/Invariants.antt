@@ -1,0 +1,22 @@
+use mathlib.Core.Path.{◌≡◌, ap, ◌∙◌}
+use mathlib.Core.Bool.{cond}
+use Prim.Native.Nat.{ℕ, ◌+◌, ◌-◌, ◌≤◌, ◌<◌}
+use native.Mathlib.Omega.{arith}
+use borrow.Author.Rules.{rules}
+use lib.Dec.{ltb}
+use lib.ListN.{length, get_or}
+use Rattle.numbers.specs.Index.{tabulate}
+use Rattle.numbers.proofs.IndexLaws.{Written, written_none, written_more, written_below}
+use Rattle.outlet.specs.Outlets.{outlet_at}
+use Rattle.drawing.specs.Ranges.{unit_at}
+use Rattle.drawing.proofs.DrawingLaws.{as_long}
+use Rattle.drawing.proofs.DealingLaws.{units_after, unit_few, units_none, units_more, unit_is}
+use Rattle.drawing.proofs.dealing.hand_out.Given as goal
+
+abbrev pub invariant-loop-k : goal.invariant-loop-k
+invariant-loop-k l = (l.k ≤ l.n)
+    × ((l.left ≡ tabulate (length l.initial.left) (units_after (record { count = l.n; list = l.list }) l.initial.left l.k))
+    × Written 0 (λ j. get_or l.initial.r j 0 + unit_at (record { count = l.n; list = l.list }) l.initial.left j) l.initial.r l.k l.r)
+
+abbrev pub decreases-loop-k : goal.decreases-loop-k
+decreases-loop-k l = l.n - l.k
