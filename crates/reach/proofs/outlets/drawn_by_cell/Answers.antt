@@ -13,38 +13,21 @@ use Rattle.drawing.specs.Ranges.{by_cell}
 use Rattle.drawing.proofs.DrawingLaws.{none_added}
 use Rattle.reach.specs.Ranges.{cut_drawn}
 use borrow.Author.Rules.{rules}
-use Rattle.reach.proofs.outlets.drawn_by_cell.Statement.{statement}
-use Rattle.reach.proofs.outlets.drawn_by_cell.Tie as tie
+use Rattle.reach.proofs.outlets.drawn_by_cell.Goals as goal
 
 -- added to zeros
 from_zeros : (os : Outlets) (column a : List ℕ) → ((i : ℕ) → get_or column i 0 ≡ 0) → a ≡ tabulate 32 (λ k. min (outlet_at os k).drawn 4_000_001)
     → tabulate (length column) (λ i. get_or column i 0 + by_cell os a i) ≡ tabulate (length column) (cut_drawn os)
 from_zeros os column a z e = tabulate_same (length column) _ _ (λ i l. rw (z i, e) (zero-add (cut_drawn os i)))
 
-returns : tie.Need-returns
-returns c =
-    let s = c.before.before.before in
-    none_added s.args.outlets s.args.column.now _ c.if1.true ∙ from_zeros s.args.outlets s.args.column.now _ s.requires.1.1 refl
-
-drawn-of-requires : tie.Need-drawn-of-requires
-drawn-of-requires c κs = search rules
-
 small : (os : Outlets) (k : ℕ) → k < 32 → get_or (tabulate 32 (λ k. min (outlet_at os k).drawn 4_000_001)) k 0 ≤ 1_000_000_000
 small os k l = rw (get_or_tabulate 32 (λ k. min (outlet_at os k).drawn 4_000_001) k 0 l) (omega arith)
 
-add-by-cell-requires : tie.Need-add-by-cell-requires
-add-by-cell-requires c κs =
-    let s = c.before.before.before.before.before in
-    let a = c.before.drawn-of.ensures in
-    (s.requires.0, ((λ k l. (s.requires.1.0 k l, rw a (small s.args.outlets k (omega (arith, l, s.requires.0))))), (λ i l. omega (arith, s.requires.1.1 i))))
+pub returns-then-outlets-eq0 : goal.returns-then-outlets-eq0
+returns-then-outlets-eq0 c =
+    none_added c.args.outlets c.args.column.now _ c.if-outlets-eq0.true ∙ from_zeros c.args.outlets c.args.column.now _ c.requires.by_index_2 refl
 
-same_length : tie.Need-same-length
-same_length c = search rules
-
-returns-2 : tie.Need-returns-2
-returns-2 c =
-    let s = c.before.before.before.before.before.before.before.before in
-    c.before.before.add-by-cell.ensures ∙ from_zeros s.args.outlets s.args.column.now _ s.requires.1.1 c.before.before.before.before.drawn-of.ensures
-
-pub drawn_by_cell_spec : {M : Type 1} → statement M
-drawn_by_cell_spec = tie.close (tie.spec returns drawn-of-requires add-by-cell-requires same_length returns-2)
+pub add_by_cell-requires-clause-by_index : goal.add_by_cell-requires-clause-by_index
+add_by_cell-requires-clause-by_index c =
+    let a = c.drawn_of-amounts.ensures in
+    (λ k l. (c.requires.by_index k l, rw a (small c.args.outlets k (omega (arith, l, c.requires.count_le_outlets_most)))))
