@@ -1,0 +1,117 @@
+-- `water::exchange_between` meets its contract. Assumes nothing.
+use mathlib.Core.Path.{◌≡◌, refl, sym, ap, ap₂, ◌∙◌}
+use Prim.Native.Nat.{ℕ, ◌+◌, ◌-◌, ◌≤◌}
+use native.Mathlib.Omega.{arith}
+use native.Mathlib.Nat.{le_trans}
+use lib.IntN.{ℤ, neg_ℤ, sub_ℕ}
+use mir.Facts.{to_z-of_z}
+use Rattle.numbers.proofs.SignedLaws.{sub_neg}
+use Rattle.flux.specs.Crossing.{water_flux, momentum_flux, still_thrust}
+use Rattle.flux.specs.Interface.{reduced_depth, left_depth, right_depth, momentum_sum}
+use Rattle.flux.specs.Ranges.{Flow}
+use Rattle.flux.specs.Wave.{wave_speed}
+use Rattle.flux.proofs.CrossingLaws.{momentum_flux_small}
+use Rattle.flux.proofs.InterfaceLaws.{reduced_depth_le}
+use Rattle.water.specs.Ranges.{side_of, ExchangeOf}
+use Rattle.water.proofs.WaterLaws.{crossing_fits, dry_exchange}
+use borrow.Author.Rules.{rules}
+use Rattle.water.proofs.exchange_between.Goals as goal
+use Rattle.water.proofs.exchange_between.Goals.{After-reduced_depth-hl, After-reduced_depth-hr, After-reduced_wave-ar}
+
+left_is : (c : After-reduced_depth-hl) →
+    let s = c.args in c.reduced_depth-hl.result ≡ reduced_depth s.l.depth s.l.bed s.r.bed
+left_is c =
+    rw (to_z-of_z (record { sfits = c.type_inv.l.0.1 }), to_z-of_z (record { sfits = c.type_inv.r.0.1 })) at
+    c.reduced_depth-hl.ensures
+
+right_is : (c : After-reduced_depth-hr) →
+    let s = c.args in c.reduced_depth-hr.result ≡ reduced_depth s.r.depth s.r.bed s.l.bed
+right_is c =
+    rw (to_z-of_z (record { sfits = c.type_inv.r.0.1 }), to_z-of_z (record { sfits = c.type_inv.l.0.1 })) at
+    c.reduced_depth-hr.ensures
+
+left_le : (c : After-reduced_depth-hl) → c.reduced_depth-hl.result ≤ c.args.l.depth
+left_le c = let s = c.args in omega (arith, left_is c, reduced_depth_le s.l.depth s.l.bed s.r.bed)
+
+right_le : (c : After-reduced_depth-hr) → c.reduced_depth-hr.result ≤ c.args.r.depth
+right_le c = let s = c.args in omega (arith, right_is c, reduced_depth_le s.r.depth s.r.bed s.l.bed)
+
+left-deep : (c : After-reduced_depth-hl) → c.reduced_depth-hl.result ≤ 4_000_000
+left-deep c = le_trans (left_le c) c.requires.mesh.1.0.depth
+
+right-deep : (c : After-reduced_depth-hr) → c.reduced_depth-hr.result ≤ 4_000_000
+right-deep c = le_trans (right_le c) c.requires.mesh.1.1.depth
+
+-- either side at its reduced depth
+left-flow : (c : After-reduced_wave-ar) → let s = c.args in Flow c.reduced_depth-hl.result c.reduced_wave-al.result s.l.right s.l.left
+left-flow c =
+    let p = c.requires.mesh.1.0 in
+    record { depth = left-deep (goal.at.After-reduced_wave-ar c).After-reduced_depth-hl; wave = c.reduced_wave-al.ensures; right_most = p.right_most; left_most = p.left_most }
+
+right-flow : (c : After-reduced_wave-ar) → let s = c.args in Flow c.reduced_depth-hr.result c.reduced_wave-ar.result s.r.left s.r.right
+right-flow c =
+    let p = c.requires.mesh.1.1 in
+    record { depth = right-deep (goal.at.After-reduced_wave-ar c).After-reduced_depth-hr; wave = c.reduced_wave-ar.ensures; right_most = p.left_most; left_most = p.right_most }
+
+-- both sides are dry
+pub returns-then-l-r-eq0 : goal.returns-then-l-r-eq0
+returns-then-l-r-eq0 c =
+    let e = c.if-l-r-eq0.true in
+    let none = dry_exchange c.args.t c.args.x (side_of c.args.l) (side_of c.args.r) (omega (arith, e)) (omega (arith, e)) in
+    (none, crossing_fits _ c.requires.mesh.0 c.requires.mesh.1.0 c.requires.mesh.1.1 none)
+
+pub fluxes_of-a-requires : goal.fluxes_of-a-requires
+fluxes_of-a-requires c = let p = c.requires in (p.mesh.0, (p.span_of.0, left-flow (goal.at.fluxes_of-a-requires c).After-reduced_wave-ar))
+
+pub fluxes_of-b-requires : goal.fluxes_of-b-requires
+fluxes_of-b-requires c =
+    let p = c.requires in (p.mesh.0, (p.span_of.0, right-flow (goal.at.fluxes_of-b-requires c).After-reduced_wave-ar))
+
+pub overflow_add-result : goal.overflow_add-result
+overflow_add-result c =
+    let g = c.requires.mesh.0 in
+    omega (arith, c.fluxes_of-a.ensures.1, c.fluxes_of-b.ensures.1, momentum_flux_small g (left-flow (goal.at.overflow_add-result c).After-reduced_wave-ar), momentum_flux_small g (right-flow (goal.at.overflow_add-result c).After-reduced_wave-ar))
+
+pub returns : goal.returns
+unfolding momentum_sum left_depth right_depth
+returns c =
+    let s = c.args in
+    let g = c.requires.mesh in
+    let a = c.fluxes_of-a.ensures in
+    let b = c.fluxes_of-b.ensures in
+    let hl = left_is (goal.at.returns c).After-reduced_depth-hl in
+    let hr = right_is (goal.at.returns c).After-reduced_depth-hr in
+    let turned = sym (sub_neg s.r.right s.r.left) in
+    let water : ℕ → ℤ → ℕ = λ h u. water_flux s.t s.x h u in
+    let push : ℕ → ℤ → ℕ = λ h u. momentum_flux s.t s.x h u in
+    let ul = sub_ℕ s.l.right s.l.left in
+    let crosses : ExchangeOf s.t s.x (side_of s.l) (side_of s.r) _ _ _ _ _ = record {
+      rightward_is = a.0 ∙ ap (λ (h : ℕ). water h ul) hl;
+      leftward_is = b.0 ∙ ap₂ water hr turned;
+      momentum_is = ap₂ ◌+◌ (a.1 ∙ ap (λ (h : ℕ). push h ul) hl) (b.1 ∙ ap₂ push hr turned);
+      lost_left_is = c.thrust_lost.ensures ∙ ap (λ (h : ℕ). still_thrust s.t s.x s.l.depth - still_thrust s.t s.x h) hl;
+      lost_right_is = c.thrust_lost-2.ensures ∙ ap (λ (h : ℕ). still_thrust s.t s.x s.r.depth - still_thrust s.t s.x h) hr;
+    } in
+    (crosses, crossing_fits _ g.0 g.1.0 g.1.1 crosses)
+
+pub reduced_wave-al-requires-clause-reduced_le_depth_most : goal.reduced_wave-al-requires-clause-reduced_le_depth_most
+reduced_wave-al-requires-clause-reduced_le_depth_most c =
+    (left-deep (goal.at.reduced_wave-al-requires-clause-reduced_le_depth_most c).After-reduced_depth-hl, c.requires.0.1.0.wave)
+
+pub reduced_wave-ar-requires-clause-reduced_le_depth_most : goal.reduced_wave-ar-requires-clause-reduced_le_depth_most
+reduced_wave-ar-requires-clause-reduced_le_depth_most c =
+    (right-deep (goal.at.reduced_wave-ar-requires-clause-reduced_le_depth_most c).After-reduced_depth-hr, c.requires.0.1.1.wave)
+
+pub thrust_lost-requires-clause-flow : goal.thrust_lost-requires-clause-flow
+thrust_lost-requires-clause-flow c =
+    let p = c.requires.0.1.0 in (
+      record { depth = p.depth; wave = p.wave; right_most = omega arith; left_most = omega arith },
+      (record { depth = (left-flow (goal.at.thrust_lost-requires-clause-flow c).After-reduced_wave-ar).depth; wave = (left-flow (goal.at.thrust_lost-requires-clause-flow c).After-reduced_wave-ar).wave; right_most = omega arith; left_most = omega arith }, left_le (goal.at.thrust_lost-requires-clause-flow c).After-reduced_depth-hl),
+    )
+
+pub thrust_lost-requires-2-clause-flow : goal.thrust_lost-requires-2-clause-flow
+thrust_lost-requires-2-clause-flow c =
+    let p = c.requires.0.1.1 in (
+      record { depth = p.depth; wave = p.wave; right_most = omega arith; left_most = omega arith },
+      (record { depth = (right-flow (goal.at.thrust_lost-requires-2-clause-flow c).After-reduced_wave-ar).depth; wave = (right-flow (goal.at.thrust_lost-requires-2-clause-flow c).After-reduced_wave-ar).wave; right_most = omega arith; left_most = omega arith }, right_le (goal.at.thrust_lost-requires-2-clause-flow c).After-reduced_depth-hr),
+    )
