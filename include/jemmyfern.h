@@ -7,7 +7,7 @@
  * The words are those of the field. Where the paper that describes the model has another, it stands once in quotes at the definition; the
  * README's glossary pairs them all.
  *
- * Link with target/staticlib/libjemmyfern_c.a (made by `rt staticlib jemmyfern_c`), built for x86-64 (ELF, System V calls, 64-bit size_t, SSE2). It
+ * Link with target/staticlib/libjemmyfern_c.a (made by `sh tests/archives calls`), built for x86-64 (ELF, System V calls, 64-bit size_t, SSE2). It
  * calls memcpy, memmove and memset, which any C library has, and nothing else.
  *
  * Units

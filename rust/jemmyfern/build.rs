@@ -1,4 +1,4 @@
-//! Links the proved library that `rt staticlib jemmyfern_c` wrote. `JEMMYFERN_LIB` names another folder that holds it.
+//! Links the proved library that `sh tests/archives` wrote. `JEMMYFERN_LIB` names another folder that holds it.
 fn main() {
     println!("cargo:rerun-if-env-changed=JEMMYFERN_LIB");
     let beside = concat!(env!("CARGO_MANIFEST_DIR"), "/../../target/staticlib");

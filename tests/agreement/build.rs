@@ -1,4 +1,4 @@
-//! Links the static libraries that `rt staticlib jemmyfern_c` and `rt staticlib harness` wrote.
+//! Links the static libraries that `sh tests/archives` wrote.
 fn main() {
     let libraries = concat!(env!("CARGO_MANIFEST_DIR"), "/../../target/staticlib");
     println!("cargo:rustc-link-search=native={libraries}");

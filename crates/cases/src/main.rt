@@ -1,20 +1,20 @@
 // The program on each stored input that an argument names, one after the other.
 #![tactic(auto)]
 
-fn one(i: usize) {
-    let mut path = io::buffer();
-    let n = os::arg(i, &mut path);
-    let fd = os::open_read(&path[..n]);
-    if fd < 0 {
-        os::fail(&path[..n]);
-        return;
+use std::rt::Files;
+use std::{env, fs, io};
+
+// A file that cannot be opened is passed over, with a line that says so.
+fn one(rt: &(impl Files + Print + Eprint), path: &str) -> io::Result<()> {
+    match fs::open(rt, path) {
+        Ok(mut file) => console::run_on(&mut file, &mut io::writer(rt)),
+        Err(e) => eprintln!(rt; "{path}: {e}"),
     }
-    console::run_on(fd);
-    libc::close(fd);
 }
 
-fn main() {
-    for i in 1..os::arg_count() {
-        one(i);
+fn main(rt: HostRuntime) -> io::Result<()> {
+    for path in env::args(&rt)?.skip(1) {
+        one(&rt, &path)?;
     }
+    Ok(())
 }

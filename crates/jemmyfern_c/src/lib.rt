@@ -1,4 +1,4 @@
-// The six calls as C functions, the interface of include/jemmyfern.h. Each loads the lent outlets, passes the call on, and writes the outlets back; it states
+// The six calls as C has them, the interface of include/jemmyfern.h; jemmyfern_c_c exports them. Each loads the lent outlets, passes the call on, and writes the outlets back; it states
 // the contract of the call that it passes on, and requires nothing.
 #![tactic(auto)]
 
@@ -23,8 +23,7 @@ use reach::ledger::Ledger;
 use sheet::opening::open_sheet;
 use writing::write::write_sheet;
 
-#[unsafe(no_mangle)]
-pub extern "C" fn jemmyfern_open(
+pub fn jemmyfern_open(
     s: &[u8],
     bed: &mut [i64],
     depth: &mut [u64],
@@ -43,8 +42,7 @@ pub extern "C" fn jemmyfern_open(
     opening_answer(a)
 }
 
-#[unsafe(no_mangle)]
-pub extern "C" fn jemmyfern_step(
+pub fn jemmyfern_step(
     bed: &[i64],
     depth: &mut [u64],
     discharge: &mut [i64],
@@ -68,8 +66,7 @@ pub extern "C" fn jemmyfern_step(
     step_answer(a)
 }
 
-#[unsafe(no_mangle)]
-pub extern "C" fn jemmyfern_transport(
+pub fn jemmyfern_transport(
     bed: &[i64],
     depth: &[u64],
     discharge: &[i64],
@@ -91,8 +88,7 @@ pub extern "C" fn jemmyfern_transport(
     transport_answer(a)
 }
 
-#[unsafe(no_mangle)]
-pub extern "C" fn jemmyfern_set_boundaries(
+pub fn jemmyfern_set_boundaries(
     bed: &[i64],
     depth: &[u64],
     discharge: &[i64],
@@ -116,8 +112,7 @@ pub extern "C" fn jemmyfern_set_boundaries(
     transport_answer(a)
 }
 
-#[unsafe(no_mangle)]
-pub extern "C" fn jemmyfern_greatest_step(
+pub fn jemmyfern_greatest_step(
     bed: &[i64],
     depth: &[u64],
     discharge: &[i64],
@@ -137,8 +132,7 @@ pub extern "C" fn jemmyfern_greatest_step(
     greatest_answer(a)
 }
 
-#[unsafe(no_mangle)]
-pub extern "C" fn jemmyfern_write(
+pub fn jemmyfern_write(
     bed: &[i64],
     depth: &[u64],
     discharge: &[i64],
