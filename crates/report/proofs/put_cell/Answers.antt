@@ -16,8 +16,8 @@ returns-clause-value c =
     let q = rw (to_z-of_z f) at c.put_signed-discharge.ensures in
     let m = c.put_spaced-mass.ensures in
     let e = c.put_byte.ensures in
-    let l = laid_then (laid_then (laid_then (laid_then (laid_then (laid i.value.0 i.put) (laid h.value.0 h.put)) (laid s.value s.put)) (laid q.0.0 q.1)) (laid m.value.0 m.put)) (laid e.value e.put) in
-    (l.next_is, omega (arith, i.value.1, h.value.1, s.value, q.0.1, m.value.1, e.value))
+    let l = laid_then (laid_then (laid_then (laid_then (laid_then (laid i.value.0 i.put) (laid h.value.0 h.put)) (laid s.value s.put)) (laid q.value.0 q.put)) (laid m.value.0 m.put)) (laid e.value e.put) in
+    (l.next_is, omega (arith, i.value.1, h.value.1, s.value, q.value.1, m.value.1, e.value))
 
 pub returns-clause-put : goal.returns-clause-put
 unfolding cell_line
@@ -29,5 +29,5 @@ returns-clause-put c =
     let q = rw (to_z-of_z f) at c.put_signed-discharge.ensures in
     let m = c.put_spaced-mass.ensures in
     let e = c.put_byte.ensures in
-    let l = laid_then (laid_then (laid_then (laid_then (laid_then (laid i.value.0 i.put) (laid h.value.0 h.put)) (laid s.value s.put)) (laid q.0.0 q.1)) (laid m.value.0 m.put)) (laid e.value e.put) in
+    let l = laid_then (laid_then (laid_then (laid_then (laid_then (laid i.value.0 i.put) (laid h.value.0 h.put)) (laid s.value s.put)) (laid q.value.0 q.put)) (laid m.value.0 m.put)) (laid e.value e.put) in
     l.put

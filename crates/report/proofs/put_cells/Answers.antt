@@ -20,4 +20,4 @@ unfolding cell_lines
 loop-i-preserved c =
     let l = c.loop-i in
     let e = rw (to_z-of_z (sfits_of c.put_cell-arg-in-loop-i-1.given)) at c.put_cell-next.ensures in
-    (omega arith, omega (arith, l.invariant.1, e.0.1), rw add-one (laid_then l.invariant.2 (laid e.0.0 e.1)))
+    (omega arith, omega (arith, l.invariant.1, e.value.1), rw add-one (laid_then l.invariant.2 (laid e.value.0 e.put)))
