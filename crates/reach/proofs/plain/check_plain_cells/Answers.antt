@@ -101,7 +101,7 @@ loop-i-preserved c =
       all_more _ l.i l.invariant.1 (cell_fits_lem (goal.at.loop-i-preserved c).Else-not-cell_fits),
       right,
       elim c.if-balanced.branch [
-        then-balanced w ↦ balanced_more _ _ _ l.i (search rules) (l.invariant.3.kept w.if-balanced.true) (w.balanced-is ∙ (rw (l.invariant.2, right) at w.carried_fits-balanced.ensures) ∙ none_drawn_lem _ _ _ _)
+        | then-balanced w ↦ balanced_more _ _ _ l.i (search rules) (l.invariant.3.kept w.if-balanced.true) (w.balanced-is ∙ (rw (l.invariant.2, right) at w.carried_fits-balanced.ensures) ∙ none_drawn_lem _ _ _ _)
         | else-balanced w ↦ balanced_not _ _ _ l.i l.invariant.3 w.if-balanced.false w.balanced-is
       ],
     )
@@ -112,6 +112,6 @@ returns-then-not-balanced c = sym (go_on _ _ (all_fit (goal.at.returns-then-not-
 
 pub returns : goal.returns
 unfolding carried_cells_fit
-returns c = 
+returns c =
     let e : c.loop-i.i ≡ length c.args.depth.now = omega arith in
     sym (go_on _ _ (all_fit (goal.at.returns c).After-loop-i) (last_one 8 _ ∙ sym (passes 8 (rw e at (c.loop-i.invariant.3.kept (c.if-not-balanced.false))))))

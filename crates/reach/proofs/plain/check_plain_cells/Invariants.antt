@@ -29,7 +29,7 @@ pub record Balanced (h b : List ℕ) (c : List ℤ) (i : ℕ) (t : Bool) : Type 
   pub broken : t ≡ false → all_below (length h) (carried_fits_at h b c undrawn) ≡ false
 
 abbrev pub invariant-loop-i : goal.invariant-loop-i
-invariant-loop-i l =     (l.i ≤ l.n) × (all_below l.i (cell_fits_at l.bed l.depth l.discharge l.mass l.base) ≡ true) × (l.left ≡ get_or l.carried l.i (pos 0)) × Balanced l.depth l.base l.carried l.i l.balanced
+invariant-loop-i l = (l.i ≤ l.n) × (all_below l.i (cell_fits_at l.bed l.depth l.discharge l.mass l.base) ≡ true) × (l.left ≡ get_or l.carried l.i (pos 0)) × Balanced l.depth l.base l.carried l.i l.balanced
 
 abbrev pub decreases-loop-i : goal.decreases-loop-i
 decreases-loop-i l = l.n - l.i
