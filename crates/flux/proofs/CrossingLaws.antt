@@ -1,17 +1,16 @@
 -- Laws of the crossing amounts: what a dry cell sends, how large they are, and that no more leaves a cell than it holds.
 -- Of the wave speed they use that it is monotone, positive and small, and nothing else. Assumes nothing.
-use mathlib.Core.Path.{◌≡◌, refl, ap, subst, ◌∙◌}
+use mathlib.Core.Path.{◌≡◌, refl, ap, ◌∙◌}
 use mathlib.Core.Logic.{⊎_elim}
 use Prim.Native.Nat.{ℕ, zero, suc, ◌+◌, ◌*◌, ◌-◌, ◌/◌, ◌≤◌, ◌<◌}
-use native.Mathlib.Nat.{le-div_iff_mul-le, zero-lt-suc, mul-le-mul, mul-le-mul_left, mul-le-mul_right, mul-pos, le_trans, sub-le, le_of_mul-le-mul_left, zero-div, div-zero, div-mul-le_self, div-le_of_le-mul, mul-div-mul_left, eq-zero-or-pos, pos_of_ne-zero}
+use native.Mathlib.Nat.{le-div_iff_mul-le, zero-lt-suc, mul-le-mul, mul-le-mul_left, mul-le-mul_right, mul-pos, le_trans, sub-le, le_of_mul-le-mul_left, zero-div, div-zero, div-mul-le_self, div-le_of_le-mul, mul-div-mul_left, eq-zero-or-pos}
 use native.Mathlib.Omega.{arith}
-use lib.IntN.{ℤ, pos, negsuc, ◌+ℤ◌, ◌-ℤ◌, neg_ℤ, sub_ℕ, nat_abs, neg_ℤ-neg_ℤ}
-use Rattle.numbers.specs.Signed.{positive}
+use lib.IntN.{ℤ, pos, ◌+ℤ◌, ◌-ℤ◌, neg_ℤ, sub_ℕ, nat_abs, neg_ℤ-neg_ℤ}
 use Rattle.numbers.proofs.SignedLaws.{R, L, abs_parts, abs_sub, add_cross, minus_cross, pos_cross, one_part}
-use Rattle.flux.specs.Limits.{depth_most, velocity_most, time_step_most, cell_length_least, cell_length_most}
+use Rattle.flux.specs.Limits.{depth_most, velocity_most}
 use Rattle.flux.specs.Wave.{wave_speed}
 use Rattle.flux.specs.Crossing.{upper, lower, water_of, water_flux, second_moment, momentum_of, momentum_flux, still_thrust}
-use Rattle.flux.specs.Ranges.{Mesh, Flow, Spectrum, wave_most, moment_most}
+use Rattle.flux.specs.Ranges.{Mesh, Flow, Spectrum, moment_most}
 use Rattle.flux.proofs.WaveLaws.{wave_speed_mono, wave_speed_pos, wave_speed_most}
 
 -- ---- A and B by the parts of u

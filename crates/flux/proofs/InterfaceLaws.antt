@@ -1,6 +1,6 @@
 -- Laws of an interface: the reduced depth is at most the depth, a wall passes no water, and a cell that meets CFL sends no more
 -- than it holds, whatever stands beside it. Assumes nothing.
-use mathlib.Core.Path.{◌≡◌, refl, ap, ◌∙◌}
+use mathlib.Core.Path.{◌≡◌, ap, ◌∙◌}
 use mathlib.Core.Logic.{⊎_elim}
 use Prim.Native.Nat.{ℕ, ◌+◌, ◌*◌, ◌-◌, ◌≤◌, ◌<◌}
 use native.Mathlib.Omega.{arith}

@@ -1,7 +1,7 @@
 -- Document 01, 'A water step': crossing amounts, what a cell of depth h and velocity u sends rightwards over an interface.
 -- t in ms, X in mm. B is never above A (`lower_le_upper`), so neither difference below is cut off at 0. A quotient by 0 is 0
 -- here, so all amounts are 0 where h is 0 (`water_flux_dry`, `momentum_flux_dry`, `still_thrust_dry`).
-use Rattle.std.specs.Prelude.{ℕ, ◌+◌, ◌*◌, ◌-◌, ◌/◌, ℤ, pos, ◌+ℤ◌, ◌-ℤ◌}
+use Rattle.std.specs.Prelude.{ℕ, ◌*◌, ◌-◌, ◌/◌, ℤ, pos, ◌+ℤ◌, ◌-ℤ◌}
 use Rattle.numbers.specs.Signed.{positive}
 use Rattle.flux.specs.Wave.{wave_speed}
 

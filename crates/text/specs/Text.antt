@@ -1,5 +1,5 @@
 -- Not the paper's: numbers as text, in bytes, and text put into a buffer. Whoever takes the names at their word may skip this file.
-use Rattle.std.specs.Prelude.{◌≡◌, List, [], ◌∷◌, ℕ, suc, ◌+◌, ◌-◌, ◌/◌, ◌%◌, ◌^◌, ◌≤◌, ◌<◌, leb, ℤ, pos, negsuc, length, get_or}
+use Rattle.std.specs.Prelude.{◌≡◌, List, ◌∷◌, ℕ, suc, ◌+◌, ◌-◌, ◌/◌, ◌%◌, ◌^◌, ◌≤◌, ◌<◌, leb, ℤ, pos, negsuc, length, get_or}
 use Rattle.numbers.specs.Index.{tabulate}
 use Rattle.numbers.specs.Search.{climb}
 

@@ -1,14 +1,12 @@
 -- `cfl::is_above` meets its contract. Assumes nothing.
 use mathlib.Core.Path.{◌≡◌, refl, sym}
 use mathlib.Core.Bool.{Bool, true, false}
-use Prim.Native.Nat.{ℕ, ◌+◌, ◌-◌, ◌*◌, ◌≤◌, ◌<◌}
-use native.Mathlib.Nat.{mul-le-mul}
+use Prim.Native.Nat.{ℕ, ◌+◌, ◌-◌, ◌≤◌, ◌<◌}
 use native.Mathlib.Omega.{arith}
 use lib.Dec.{ltb}
 use borrow.Author.Tests.{ltb-true, ltb-false, leb-true, leb-false, lt-ltb, le-ltb}
 use Rattle.flux.specs.Wave.{wave_speed}
 use Rattle.flux.proofs.WaveLaws.{wave_speed_above, wave_speed_least}
-use borrow.Author.Rules.{rules}
 use Rattle.cfl.proofs.is_above.Goals as goal
 
 -- a test that holds where c is below d, and only there

@@ -3,7 +3,6 @@ use mathlib.Core.Path.{sym}
 use native.Mathlib.Nat.{pos_of_ne-zero, le-div_iff_mul-le}
 use native.Mathlib.Omega.{arith}
 use Rattle.cfl.proofs.CflLaws.{step_for_slow, step_for_is}
-use borrow.Author.Rules.{rules}
 use Rattle.cfl.proofs.longest_step.Goals as goal
 
 pub returns-then-speed-eq0 : goal.returns-then-speed-eq0

@@ -3,7 +3,6 @@ use mathlib.Core.Path.{sym, ap}
 use Prim.Native.Nat.{ℕ, ◌*◌, ◌≤◌}
 use native.Mathlib.Nat.{mul-le-mul, zero-mul}
 use native.Mathlib.Omega.{arith}
-use borrow.Author.Rules.{rules}
 use Rattle.friction.specs.Friction.{centimetres, conveyance_squared}
 use Rattle.friction.specs.Ranges.{strickler_most, conveyance_squared_most}
 use Rattle.friction.proofs.conveyance_squared.Goals as goal

@@ -2,7 +2,6 @@
 use Prim.Native.Nat.{◌*◌, ◌≤◌}
 use native.Mathlib.Nat.{mul-le-mul}
 use native.Mathlib.Omega.{arith}
-use borrow.Author.Rules.{rules}
 use Rattle.friction.specs.Friction.{drag}
 use Rattle.friction.proofs.drag_of.Goals as goal
 use Rattle.friction.proofs.drag_of.Goals.{Start}

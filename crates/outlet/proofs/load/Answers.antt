@@ -1,11 +1,7 @@
 -- `outlet::load` meets its contract: after i turns the room is the first i entries of the list laid over no outlets. Assumes nothing.
-use Rattle.outlet.proofs.LentLaws.{Copying, copying_none, copying_more, copying_done}
-use mathlib.Core.Logic.{⊎_elim, inl, inr}
+use Rattle.outlet.proofs.LentLaws.{copying_more, copying_done}
 use mathlib.Core.Path.{◌∙◌, ap}
-use native.Mathlib.Omega.{arith}
-use borrow.Author.Rules.{rules}
 use lib.ListN.{length, replicate}
-use Prim.Native.Nat.{◌-◌}
 use mathlib.Core.List.{List}
 use Rattle.outlet.specs.declared.Outlet.{Outlet}
 use Rattle.outlet.specs.declared.Outlets.{Outlets}

@@ -1,14 +1,5 @@
-use Rattle.outlet.proofs.LentLaws.{Copying, copying_none, copying_more, copying_done}
-use mathlib.Core.Logic.{⊎_elim, inl, inr}
-use mathlib.Core.Path.{◌∙◌, ap}
-use native.Mathlib.Omega.{arith}
-use borrow.Author.Rules.{rules}
-use lib.ListN.{length, replicate}
+use Rattle.outlet.proofs.LentLaws.{Copying}
 use Prim.Native.Nat.{◌-◌}
-use mathlib.Core.List.{List}
-use Rattle.outlet.specs.declared.Outlet.{Outlet}
-use Rattle.outlet.specs.declared.Outlets.{Outlets}
-use Rattle.outlet.specs.Outlets.{over}
 use Rattle.outlet.proofs.load.Given as goal
 
 abbrev pub invariant-loop-i : goal.invariant-loop-i

@@ -1,11 +1,5 @@
 -- `outlet::store` meets its contract: after i turns the first i entries of the list are the room's. Assumes nothing.
-use Rattle.outlet.proofs.LentLaws.{Copying, copying_none, copying_put, copying_done, copying_long}
-use mathlib.Core.Logic.{⊎_elim, inl, inr}
-use native.Mathlib.Omega.{arith}
-use borrow.Author.Rules.{rules}
-use lib.ListN.{length}
-use mathlib.Core.Path.{◌≡◌, sym, ◌∙◌}
-use Prim.Native.Nat.{◌-◌}
+use Rattle.outlet.proofs.LentLaws.{copying_put, copying_done}
 use Rattle.outlet.proofs.store.Goals as goal
 
 pub loop-i-preserved : goal.loop-i-preserved

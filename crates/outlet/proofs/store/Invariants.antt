@@ -1,9 +1,4 @@
-use Rattle.outlet.proofs.LentLaws.{Copying, copying_none, copying_put, copying_done, copying_long}
-use mathlib.Core.Logic.{⊎_elim, inl, inr}
-use native.Mathlib.Omega.{arith}
-use borrow.Author.Rules.{rules}
-use lib.ListN.{length}
-use mathlib.Core.Path.{◌≡◌, sym, ◌∙◌}
+use Rattle.outlet.proofs.LentLaws.{Copying}
 use Prim.Native.Nat.{◌-◌}
 use Rattle.outlet.proofs.store.Given as goal
 

@@ -1,8 +1,6 @@
 -- `text::digits_of` meets its contract: `Counting` says how many digits are counted. Assumes nothing.
-use Prim.Native.Nat.{◌-◌}
 use native.Mathlib.Omega.{arith}
-use borrow.Author.Rules.{rules}
-use Rattle.text.proofs.TextLaws.{Counting, counting_first, counting_more, counting_few, counting_done, unit_some}
+use Rattle.text.proofs.TextLaws.{counting_more, counting_few, counting_done, unit_some}
 use Rattle.text.proofs.digits_of.Goals as goal
 
 pub overflow_add-count : goal.overflow_add-count

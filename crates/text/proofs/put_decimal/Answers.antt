@@ -1,9 +1,8 @@
 -- `text::put_decimal` meets its contract: `Putting` says how many digits are put. Assumes nothing.
 use mathlib.Core.Path.{◌≡◌, ap, ◌∙◌}
-use Prim.Native.Nat.{ℕ, suc, ◌+◌, ◌-◌, ◌/◌, ◌%◌, ◌^◌, ◌≤◌, ◌<◌}
+use Prim.Native.Nat.{ℕ, ◌+◌, ◌/◌, ◌%◌, ◌≤◌}
 use native.Mathlib.Omega.{arith}
-use borrow.Author.Rules.{rules}
-use Rattle.text.proofs.TextLaws.{Putting, digit_at, putting_none, putting_more, power_some, unit_down, decimal_long, decimal_put}
+use Rattle.text.proofs.TextLaws.{putting_more, power_some, unit_down, decimal_long, decimal_put}
 use Rattle.text.proofs.put_decimal.Goals as goal
 use Rattle.text.proofs.put_decimal.Goals.{After-digits_of-d}
 

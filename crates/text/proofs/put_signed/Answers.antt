@@ -1,6 +1,5 @@
 -- `text::put_signed` meets its contract. Assumes nothing.
 use mir.Facts.{to_z-of_z}
-use borrow.Author.Rules.{rules}
 use Rattle.text.proofs.TextLaws.{put_minus, put_plain}
 use Rattle.text.proofs.put_signed.Goals as goal
 

@@ -1,13 +1,12 @@
 -- `drawing::adding::add_by_cell` meets its contract: the column has the amounts of the outlets passed. Assumes nothing.
 use mathlib.Core.Path.{◌≡◌, ap, ◌∙◌}
-use Prim.Native.Nat.{ℕ, ◌-◌, ◌≤◌, ◌<◌}
+use Prim.Native.Nat.{ℕ, ◌<◌}
 use native.Mathlib.Omega.{arith}
-use borrow.Author.Rules.{rules}
 use lib.ListN.{length, get_or}
 use Rattle.numbers.specs.Index.{tabulate}
 use Rattle.outlet.specs.Outlets.{no_outlet}
 use Rattle.drawing.specs.Ranges.{by_cell}
-use Rattle.drawing.proofs.DrawingLaws.{as_long, there, added, added_none, added_more, added_small}
+use Rattle.drawing.proofs.DrawingLaws.{there, added, added_none, added_more, added_small}
 use Rattle.drawing.proofs.adding.add_by_cell.Goals as goal
 use Rattle.drawing.proofs.adding.add_by_cell.Goals.{In-loop-k}
 

@@ -1,12 +1,8 @@
-use mathlib.Core.Path.{◌≡◌, ap, ◌∙◌}
-use Prim.Native.Nat.{ℕ, ◌-◌, ◌≤◌, ◌<◌}
-use native.Mathlib.Omega.{arith}
-use borrow.Author.Rules.{rules}
-use lib.ListN.{length, get_or}
+use mathlib.Core.Path.{◌≡◌}
+use Prim.Native.Nat.{◌-◌, ◌≤◌}
+use lib.ListN.{length}
 use Rattle.numbers.specs.Index.{tabulate}
-use Rattle.outlet.specs.Outlets.{no_outlet}
-use Rattle.drawing.specs.Ranges.{by_cell}
-use Rattle.drawing.proofs.DrawingLaws.{as_long, there, added, added_none, added_more, added_small}
+use Rattle.drawing.proofs.DrawingLaws.{added}
 use Rattle.drawing.proofs.adding.add_by_cell.Given as goal
 
 abbrev pub invariant-loop-k : goal.invariant-loop-k

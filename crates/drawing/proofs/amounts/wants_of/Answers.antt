@@ -1,11 +1,7 @@
 -- `drawing::amounts::wants_of` meets its contract. Assumes nothing.
-use mathlib.Core.Path.{◌≡◌, refl}
-use Prim.Native.Nat.{◌-◌, ◌≤◌, ◌<◌}
+use mathlib.Core.Path.{◌≡◌}
 use native.Mathlib.Omega.{arith}
-use borrow.Author.Rules.{rules}
-use lib.ListN.{get_or}
-use Rattle.numbers.proofs.IndexLaws.{Written, written_none, written_more, written_all}
-use Rattle.outlet.specs.Outlets.{no_outlet}
+use Rattle.numbers.proofs.IndexLaws.{written_all}
 use Rattle.drawing.proofs.amounts.wants_of.Goals as goal
 
 pub returns : goal.returns

@@ -1,7 +1,6 @@
 -- `drawing::dealing::deal` meets its contract: both passes together. Assumes nothing.
 use mathlib.Core.Path.{◌≡◌, ap, ◌∙◌}
 use Prim.Native.Nat.{ℕ}
-use borrow.Author.Rules.{rules}
 use lib.ListN.{length, get_or}
 use Rattle.numbers.specs.Index.{tabulate}
 use Rattle.numbers.specs.Deal.{units_left}

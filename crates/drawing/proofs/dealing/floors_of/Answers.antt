@@ -1,13 +1,12 @@
 -- `drawing::dealing::floors_of` meets its contract: each column holds what the outlets passed leave. Assumes nothing.
 use mathlib.Core.Path.{◌≡◌, ap, ◌∙◌}
 use mathlib.Core.Bool.{cond}
-use Prim.Native.Nat.{ℕ, ◌-◌, ◌≤◌, ◌<◌}
+use Prim.Native.Nat.{ℕ, ◌<◌}
 use native.Mathlib.Omega.{arith}
-use borrow.Author.Rules.{rules}
 use lib.Dec.{ltb}
 use lib.ListN.{length}
 use Rattle.numbers.specs.Index.{tabulate}
-use Rattle.numbers.proofs.IndexLaws.{Written, written_none, written_more}
+use Rattle.numbers.proofs.IndexLaws.{written_none, written_more}
 use Rattle.outlet.specs.Outlets.{outlet_at}
 use Rattle.drawing.specs.Ranges.{Granted, floor_at}
 use Rattle.drawing.proofs.DrawingLaws.{as_long}

@@ -1,16 +1,10 @@
-use mathlib.Core.Path.{◌≡◌, ap, ◌∙◌}
-use mathlib.Core.Bool.{cond}
-use Prim.Native.Nat.{ℕ, ◌-◌, ◌≤◌, ◌<◌}
-use native.Mathlib.Omega.{arith}
-use borrow.Author.Rules.{rules}
-use lib.Dec.{ltb}
+use mathlib.Core.Path.{◌≡◌}
+use Prim.Native.Nat.{◌-◌, ◌≤◌}
 use lib.ListN.{length}
 use Rattle.numbers.specs.Index.{tabulate}
-use Rattle.numbers.proofs.IndexLaws.{Written, written_none, written_more}
-use Rattle.outlet.specs.Outlets.{outlet_at}
-use Rattle.drawing.specs.Ranges.{Granted, floor_at}
-use Rattle.drawing.proofs.DrawingLaws.{as_long}
-use Rattle.drawing.proofs.DealingLaws.{written_in_zeros, left_after, left_none, left_more, left_enough, left_done, grant_small}
+use Rattle.numbers.proofs.IndexLaws.{Written}
+use Rattle.drawing.specs.Ranges.{floor_at}
+use Rattle.drawing.proofs.DealingLaws.{left_after}
 use Rattle.drawing.proofs.dealing.floors_of.Given as goal
 
 abbrev pub invariant-loop-k : goal.invariant-loop-k

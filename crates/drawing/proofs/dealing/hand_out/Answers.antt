@@ -1,17 +1,17 @@
 -- `drawing::dealing::hand_out` meets its contract: each column holds what the outlets passed leave. Assumes nothing.
 use mathlib.Core.Path.{◌≡◌, ap, ◌∙◌}
 use mathlib.Core.Bool.{cond}
-use Prim.Native.Nat.{ℕ, ◌+◌, ◌-◌, ◌≤◌, ◌<◌}
+use Prim.Native.Nat.{ℕ, ◌+◌, ◌≤◌, ◌<◌}
 use native.Mathlib.Omega.{arith}
 use borrow.Author.Rules.{rules}
 use lib.Dec.{ltb}
 use lib.ListN.{length, get_or}
 use Rattle.numbers.specs.Index.{tabulate}
-use Rattle.numbers.proofs.IndexLaws.{Written, written_none, written_more, written_below}
+use Rattle.numbers.proofs.IndexLaws.{written_none, written_more, written_below}
 use Rattle.outlet.specs.Outlets.{outlet_at}
 use Rattle.drawing.specs.Ranges.{unit_at}
 use Rattle.drawing.proofs.DrawingLaws.{as_long}
-use Rattle.drawing.proofs.DealingLaws.{units_after, unit_few, units_none, units_more, unit_is}
+use Rattle.drawing.proofs.DealingLaws.{unit_few, units_none, units_more, unit_is}
 use Rattle.drawing.proofs.dealing.hand_out.Goals as goal
 use Rattle.drawing.proofs.dealing.hand_out.Goals.{After-unit_of-unit, At-loop-k, In-loop-k}
 

@@ -1,16 +1,10 @@
-use mathlib.Core.Path.{◌≡◌, ap, ◌∙◌}
-use mathlib.Core.Bool.{cond}
-use Prim.Native.Nat.{ℕ, ◌+◌, ◌-◌, ◌≤◌, ◌<◌}
-use native.Mathlib.Omega.{arith}
-use borrow.Author.Rules.{rules}
-use lib.Dec.{ltb}
+use mathlib.Core.Path.{◌≡◌}
+use Prim.Native.Nat.{◌+◌, ◌-◌, ◌≤◌}
 use lib.ListN.{length, get_or}
 use Rattle.numbers.specs.Index.{tabulate}
-use Rattle.numbers.proofs.IndexLaws.{Written, written_none, written_more, written_below}
-use Rattle.outlet.specs.Outlets.{outlet_at}
+use Rattle.numbers.proofs.IndexLaws.{Written}
 use Rattle.drawing.specs.Ranges.{unit_at}
-use Rattle.drawing.proofs.DrawingLaws.{as_long}
-use Rattle.drawing.proofs.DealingLaws.{units_after, unit_few, units_none, units_more, unit_is}
+use Rattle.drawing.proofs.DealingLaws.{units_after}
 use Rattle.drawing.proofs.dealing.hand_out.Given as goal
 
 abbrev pub invariant-loop-k : goal.invariant-loop-k

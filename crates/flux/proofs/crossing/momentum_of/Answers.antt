@@ -1,9 +1,7 @@
 -- `flux::crossing::momentum_of` meets its contract. Assumes nothing.
 use mathlib.Core.Path.{ap, ◌∙◌}
 use Prim.Native.Nat.{ℕ, ◌*◌, ◌/◌}
-use native.Mathlib.Omega.{arith}
 use Rattle.flux.specs.Crossing.{momentum_of}
-use Rattle.flux.proofs.CrossingLaws.{volume, momentum_dividend}
 use Rattle.flux.proofs.crossing.momentum_of.Goals as goal
 
 pub returns : goal.returns

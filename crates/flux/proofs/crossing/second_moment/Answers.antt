@@ -1,11 +1,6 @@
 -- `flux::crossing::second_moment` meets its contract: each product fits, and the quotient is the definition's. Assumes nothing.
 use mathlib.Core.Path.{refl}
-use native.Mathlib.Nat.{le_trans}
-use native.Mathlib.Omega.{arith}
-use mir.Facts.{Fits-below}
 use Rattle.flux.specs.Crossing.{second_moment}
-use Rattle.flux.proofs.CrossingLaws.{square, square_low, cube, cube_low}
-use borrow.Author.Rules.{rules}
 use Rattle.flux.proofs.crossing.second_moment.Goals as goal
 
 pub returns : goal.returns

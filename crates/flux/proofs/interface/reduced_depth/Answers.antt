@@ -5,7 +5,6 @@ use lib.IntN.{◌-ℤ◌, neg_ℤ}
 use mir.Syntax.{w64}
 use mir.Val.{to_z, of_z, SFits}
 use mir.Facts.{to_z-of_z}
-use borrow.Author.Rules.{rules}
 use Rattle.numbers.proofs.SignedLaws.{abs_add, abs_neg, mag_abs}
 use Rattle.flux.proofs.InterfaceLaws.{reduced_depth_is}
 use Rattle.flux.proofs.interface.reduced_depth.Goals as goal

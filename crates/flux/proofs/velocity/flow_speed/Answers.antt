@@ -3,7 +3,6 @@ use mathlib.Core.Path.{refl, ap}
 use Prim.Native.Nat.{ℕ, ◌/◌}
 use native.Mathlib.Omega.{arith}
 use mir.Facts.{to_z-of_z}
-use borrow.Author.Rules.{rules}
 use Rattle.flux.proofs.VelocityLaws.{velocity_dry, velocity_size}
 use Rattle.flux.proofs.velocity.flow_speed.Goals as goal
 

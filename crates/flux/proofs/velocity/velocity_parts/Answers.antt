@@ -1,7 +1,6 @@
 -- `flux::velocity::velocity_parts` meets its contract. Assumes nothing.
 use mathlib.Core.Path.{sym, ◌∙◌}
 use mir.Facts.{to_z-of_z}
-use borrow.Author.Rules.{rules}
 use Rattle.flux.proofs.VelocityLaws.{dry_parts, leftward_parts, rightward_parts}
 use Rattle.flux.proofs.velocity.velocity_parts.Goals as goal
 

@@ -1,7 +1,6 @@
 -- `flux::wave::wave_speed` meets its contract. Assumes nothing.
 use mathlib.Core.Path.{ap, sym, ◌∙◌}
 use native.Mathlib.Omega.{arith}
-use borrow.Author.Rules.{rules}
 use Rattle.flux.specs.Wave.{wave_speed}
 use Rattle.flux.proofs.WaveLaws.{wave_speed_dry, wave_speed_root}
 use Rattle.flux.proofs.wave.wave_speed.Goals as goal

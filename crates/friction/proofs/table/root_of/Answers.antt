@@ -2,7 +2,6 @@
 use mathlib.Core.Path.{◌≡◌, ◌∙◌}
 use Prim.Native.Nat.{◌≤◌, min}
 use native.Mathlib.Omega.{arith}
-use borrow.Author.Rules.{rules}
 use Rattle.friction.specs.Friction.{table_most}
 use Rattle.friction.proofs.FrictionLaws.{four_thirds_most_lem}
 use Rattle.friction.proofs.table.root_of.Goals as goal

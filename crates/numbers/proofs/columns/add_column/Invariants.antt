@@ -1,12 +1,7 @@
-use mathlib.Core.Path.{ap, ◌∙◌}
 use Prim.Native.Nat.{◌-◌, ◌≤◌}
-use native.Mathlib.Omega.{arith}
-use borrow.Author.Rules.{rules, sfits_of}
-use lib.IntN.{ℤ, pos, ◌+ℤ◌}
+use lib.IntN.{pos, ◌+ℤ◌}
 use lib.ListN.{get_or}
-use mir.Syntax.{w64}
-use mir.Facts.{to_z-of_z}
-use Rattle.numbers.proofs.IndexLaws.{Written, written_none, written_more, written_all}
+use Rattle.numbers.proofs.IndexLaws.{Written}
 use Rattle.numbers.proofs.columns.add_column.Given as goal
 
 abbrev pub invariant-loop-i : goal.invariant-loop-i

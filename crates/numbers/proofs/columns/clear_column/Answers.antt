@@ -1,13 +1,11 @@
 -- `numbers::columns::clear_column` meets its contract: `Written` says how far the column is written. Assumes nothing.
-use mathlib.Core.Path.{◌≡◌, refl, sym, ap, ◌∙◌, subst}
-use Prim.Native.Nat.{ℕ, ◌+◌, ◌-◌, ◌*◌, ◌≤◌, ◌<◌}
+use mathlib.Core.Path.{sym, ◌∙◌}
+use Prim.Native.Nat.{◌<◌}
 use native.Mathlib.Omega.{arith}
-use borrow.Author.Rules.{rules}
-use lib.ListN.{length, get_or}
+use lib.ListN.{length}
 use lib.IntN.{pos}
 use lib.ListN.{replicate, get_or-replicate, length-replicate}
 use lib.Seq.{ext_get_or}
-use Rattle.numbers.proofs.IndexLaws.{Written, written_none, written_more}
 use Rattle.numbers.proofs.columns.clear_column.Goals as goal
 
 pub returns : goal.returns

@@ -1,12 +1,7 @@
-use mathlib.Core.Path.{◌≡◌, refl, sym, ap, ◌∙◌, subst}
-use Prim.Native.Nat.{ℕ, ◌+◌, ◌-◌, ◌*◌, ◌≤◌, ◌<◌}
-use native.Mathlib.Omega.{arith}
-use borrow.Author.Rules.{rules}
-use lib.ListN.{length, get_or}
+use Prim.Native.Nat.{◌-◌, ◌≤◌}
+use lib.ListN.{length}
 use lib.IntN.{pos}
-use lib.ListN.{replicate, get_or-replicate, length-replicate}
-use lib.Seq.{ext_get_or}
-use Rattle.numbers.proofs.IndexLaws.{Written, written_none, written_more}
+use Rattle.numbers.proofs.IndexLaws.{Written}
 use Rattle.numbers.proofs.columns.clear_column.Given as goal
 
 abbrev pub invariant-loop-i : goal.invariant-loop-i

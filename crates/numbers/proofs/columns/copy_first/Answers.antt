@@ -1,10 +1,7 @@
 -- `numbers::columns::copy_first` meets its contract: `Written` says how far the column is written. Assumes nothing.
-use mathlib.Core.Path.{refl}
-use Prim.Native.Nat.{◌-◌, ◌≤◌}
 use native.Mathlib.Omega.{arith}
-use borrow.Author.Rules.{rules}
 use lib.ListN.{get_or}
-use Rattle.numbers.proofs.IndexLaws.{Written, written_none, written_more, written_all}
+use Rattle.numbers.proofs.IndexLaws.{written_all}
 use Rattle.numbers.proofs.columns.copy_first.Goals as goal
 
 pub returns : goal.returns

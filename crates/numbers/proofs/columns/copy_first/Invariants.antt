@@ -1,9 +1,6 @@
-use mathlib.Core.Path.{refl}
 use Prim.Native.Nat.{◌-◌, ◌≤◌}
-use native.Mathlib.Omega.{arith}
-use borrow.Author.Rules.{rules}
 use lib.ListN.{get_or}
-use Rattle.numbers.proofs.IndexLaws.{Written, written_none, written_more, written_all}
+use Rattle.numbers.proofs.IndexLaws.{Written}
 use Rattle.numbers.proofs.columns.copy_first.Given as goal
 
 abbrev pub invariant-loop-i : goal.invariant-loop-i

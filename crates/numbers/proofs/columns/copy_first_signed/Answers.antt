@@ -1,11 +1,8 @@
 -- `numbers::columns::copy_first_signed` meets its contract: `Written` says how far the column is written. Assumes nothing.
-use Prim.Native.Nat.{◌-◌, ◌≤◌}
 use native.Mathlib.Omega.{arith}
-use borrow.Author.Rules.{rules, sfits_of}
 use lib.IntN.{pos}
 use lib.ListN.{get_or}
-use mir.Facts.{to_z-of_z}
-use Rattle.numbers.proofs.IndexLaws.{Written, written_none, written_more, written_all}
+use Rattle.numbers.proofs.IndexLaws.{written_all}
 use Rattle.numbers.proofs.columns.copy_first_signed.Goals as goal
 
 pub returns : goal.returns

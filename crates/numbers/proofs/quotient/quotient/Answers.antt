@@ -1,8 +1,6 @@
 -- `numbers::quotient::quotient` meets its contract: `falls_short`. Assumes nothing.
 use Prim.Native.Nat.{◌+◌, ◌*◌, ◌≤◌, ◌<◌}
 use native.Mathlib.Omega.{arith}
-use mir.Facts.{Fits-le}
-use borrow.Author.Rules.{rules}
 use Rattle.numbers.proofs.QuotientLaws.{falls_short, one_more, none_more}
 use Rattle.numbers.proofs.quotient.quotient.Goals as goal
 use Rattle.numbers.proofs.quotient.quotient.Goals.{After-upper_half-q}

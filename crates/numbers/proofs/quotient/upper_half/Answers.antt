@@ -1,6 +1,4 @@
 -- `numbers::quotient::upper_half` meets its contract: `upper_half_is` in base 2^32. Assumes nothing.
-use Prim.Native.Nat.{ℕ, ◌*◌, ◌/◌, ◌%◌, ◌≤◌}
-use native.Mathlib.Nat.{mul-le-mul}
 use native.Mathlib.Omega.{arith}
 use Rattle.numbers.proofs.QuotientLaws.{upper_half_is}
 use Rattle.numbers.proofs.quotient.upper_half.Goals as goal

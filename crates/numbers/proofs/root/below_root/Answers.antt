@@ -1,6 +1,5 @@
 -- `numbers::root::below_root` meets its contract: a point of the chord, divided by its scale. Assumes nothing.
 use native.Mathlib.Omega.{arith}
-use borrow.Author.Rules.{rules}
 use Rattle.numbers.proofs.RootLaws.{scaled_below}
 use Rattle.numbers.proofs.root.below_root.Goals as goal
 

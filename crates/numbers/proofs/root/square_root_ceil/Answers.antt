@@ -1,9 +1,6 @@
 -- `numbers::root::square_root_ceil` meets its contract. What is raised keeps its square below x. Assumes nothing.
-use Prim.Native.Nat.{suc, ◌+◌, ◌*◌, ◌-◌, ◌≤◌, ◌<◌}
-use native.Mathlib.Nat.{mul-le-mul}
 use native.Mathlib.Omega.{arith}
-use borrow.Author.Rules.{rules}
-use Rattle.numbers.proofs.RootLaws.{square_lt, square_root_least, square_root_is}
+use Rattle.numbers.proofs.RootLaws.{square_root_least, square_root_is}
 use Rattle.numbers.proofs.root.square_root_ceil.Goals as goal
 
 -- of 0

@@ -1,8 +1,4 @@
-use Prim.Native.Nat.{suc, ◌+◌, ◌*◌, ◌-◌, ◌≤◌, ◌<◌}
-use native.Mathlib.Nat.{mul-le-mul}
-use native.Mathlib.Omega.{arith}
-use borrow.Author.Rules.{rules}
-use Rattle.numbers.proofs.RootLaws.{square_lt, square_root_least, square_root_is}
+use Prim.Native.Nat.{◌*◌, ◌-◌, ◌<◌}
 use Rattle.numbers.proofs.root.square_root_ceil.Given as goal
 
 abbrev pub invariant-loop-next : goal.invariant-loop-next

@@ -1,12 +1,11 @@
 -- `outlet::clearing::clear` meets its contract. The loop: the outlets passed are cleared, the rest stand as they came. Assumes nothing.
-use mathlib.Core.Path.{◌≡◌, refl, sym, ap, ◌∙◌}
+use mathlib.Core.Path.{◌≡◌, refl, ap, ◌∙◌}
 use mathlib.Core.List.{List}
-use Prim.Native.Nat.{ℕ, ◌-◌, ◌≤◌, ◌<◌}
+use Prim.Native.Nat.{ℕ}
 use native.Mathlib.Omega.{arith}
-use borrow.Author.Rules.{rules}
-use lib.ListN.{length, get_or, length-map}
-use Rattle.numbers.proofs.IndexLaws.{Written, written_none, written_more, written_below}
-use Rattle.outlet.specs.Outlets.{no_outlet, cleared_outlet, cleared, each_outlet}
+use lib.ListN.{length}
+use Rattle.numbers.proofs.IndexLaws.{written_below}
+use Rattle.outlet.specs.Outlets.{no_outlet, cleared, each_outlet}
 use Rattle.outlet.specs.declared.Outlet.{Outlet}
 use Rattle.outlet.specs.declared.Outlets.{Outlets}
 use Rattle.outlet.proofs.clearing.clear.Goals as goal
