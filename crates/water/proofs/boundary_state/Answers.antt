@@ -45,7 +45,7 @@ returns-then-e-eq-OPEN c =
 pub returns : goal.returns
 returns c =
     let f =
-    rw (to_z-of_z (record { sfits = c.type_inv.c.0.1 }), to_z-of_z (record { sfits = c.type_inv.e.1.1.1.1.0.1 }))
+    rw (to_z-of_z (record { sfits = c.struct_told-2-1.given.0.1 }), to_z-of_z (record { sfits = c.struct_told-3-1.given.1.1.1.1.0.1 }))
     at c.cell_state.ensures.1
     in
     (c.cell_state.ensures.0, f ∙ sym (boundary_fed c.args.p c.args.e (side_of c.args.c) c.if-e-eq-WALL.false c.if-e-eq-OPEN.false))

@@ -96,22 +96,22 @@ returns c =
 
 pub reduced_wave-al-requires-clause-reduced_le_depth_most : goal.reduced_wave-al-requires-clause-reduced_le_depth_most
 reduced_wave-al-requires-clause-reduced_le_depth_most c =
-    (left-deep (goal.at.reduced_wave-al-requires-clause-reduced_le_depth_most c).After-reduced_depth-hl, c.requires.0.1.0.wave)
+    (left-deep (goal.at.reduced_wave-al-requires-clause-reduced_le_depth_most c).After-reduced_depth-hl, c.requires.mesh.1.0.wave)
 
 pub reduced_wave-ar-requires-clause-reduced_le_depth_most : goal.reduced_wave-ar-requires-clause-reduced_le_depth_most
 reduced_wave-ar-requires-clause-reduced_le_depth_most c =
-    (right-deep (goal.at.reduced_wave-ar-requires-clause-reduced_le_depth_most c).After-reduced_depth-hr, c.requires.0.1.1.wave)
+    (right-deep (goal.at.reduced_wave-ar-requires-clause-reduced_le_depth_most c).After-reduced_depth-hr, c.requires.mesh.1.1.wave)
 
 pub thrust_lost-requires-clause-flow : goal.thrust_lost-requires-clause-flow
 thrust_lost-requires-clause-flow c =
-    let p = c.requires.0.1.0 in (
+    let p = c.requires.mesh.1.0 in (
       record { depth = p.depth; wave = p.wave; right_most = omega arith; left_most = omega arith },
       (record { depth = (left-flow (goal.at.thrust_lost-requires-clause-flow c).After-reduced_wave-ar).depth; wave = (left-flow (goal.at.thrust_lost-requires-clause-flow c).After-reduced_wave-ar).wave; right_most = omega arith; left_most = omega arith }, left_le (goal.at.thrust_lost-requires-clause-flow c).After-reduced_depth-hl),
     )
 
 pub thrust_lost-requires-2-clause-flow : goal.thrust_lost-requires-2-clause-flow
 thrust_lost-requires-2-clause-flow c =
-    let p = c.requires.0.1.1 in (
+    let p = c.requires.mesh.1.1 in (
       record { depth = p.depth; wave = p.wave; right_most = omega arith; left_most = omega arith },
       (record { depth = (right-flow (goal.at.thrust_lost-requires-2-clause-flow c).After-reduced_wave-ar).depth; wave = (right-flow (goal.at.thrust_lost-requires-2-clause-flow c).After-reduced_wave-ar).wave; right_most = omega arith; left_most = omega arith }, right_le (goal.at.thrust_lost-requires-2-clause-flow c).After-reduced_depth-hr),
     )
