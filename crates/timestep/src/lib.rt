@@ -70,7 +70,7 @@ pub fn greatest_step(
     x: u64,
     held: Held,
 ) -> GreatestAnswer
-    ensures { result ≡ greatest (came bed depth discharge mass base carried x held) }
+    ensures { result ≡ greatest (came bed.now depth.now discharge.now mass.now base.now carried.now x held) }
 {
     let boundaries = held.boundaries;
     let checked = check_record(
