@@ -10,14 +10,14 @@ use native.Mathlib.Omega.{arith}
 use borrow.Author.Tests.{ltb-true, ltb-false}
 use lib.Dec.{ltb}
 use lib.IntN.{ℤ, pos, negsuc, nat_abs}
-use lib.ListN.{length, get_or, take, drop, length-append, get_or-eq_default}
+use lib.ListN.{length, get_or, take, drop, get_or-eq_default}
 use lib.Seq.{get_or-drop, drop-cons, drop_at, drop-drop, take-add}
 use Rattle.numbers.specs.Index.{tabulate}
 use Rattle.numbers.proofs.IndexLaws.{by_index, tabulate_same}
 use Rattle.encoding.specs.FromBytes.{number_at, twos_in, twos, column_at}
 use Rattle.encoding.proofs.FromBytesLaws.{twos_low, twos_high}
 use Rattle.encoding.specs.ToBytes.{bytes_of, bits_in, bits, column_bytes}
-use Rattle.encoding.proofs.ToBytesLaws.{length_bytes, length_column}
+use Rattle.encoding.proofs.ToBytesLaws.{length_bytes}
 
 -- ---- a number, further on in a list
 

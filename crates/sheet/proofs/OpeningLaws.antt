@@ -2,16 +2,16 @@
 -- record stands grounds 4 to 9 and 16. Assumes nothing.
 use mathlib.Core.Path.{◌≡◌, refl, sym, ap, ◌∙◌}
 use mathlib.Core.Bool.{Bool, true, false, cond, ◌&&◌}
-use mathlib.Core.List.{List, [], ◌∷◌}
-use Prim.Native.Nat.{ℕ, suc, ◌+◌, ◌*◌, ◌≤◌, ◌<◌}
+use mathlib.Core.List.{List, ◌∷◌}
+use Prim.Native.Nat.{ℕ, ◌+◌, ◌*◌, ◌≤◌, ◌<◌}
 use native.Mathlib.Omega.{arith}
 use borrow.Author.Tests.{leb-true, eqb-true}
 use lib.Dec.{leb, eqb}
-use lib.IntN.{ℤ, pos, nat_abs}
+use lib.IntN.{ℤ, pos}
 use lib.ListN.{length, get_or, replicate, get_or-replicate, length-replicate}
 use Rattle.numbers.specs.Index.{all_of, all_below, sum, tabulate}
 use Rattle.numbers.proofs.IndexLaws.{and_left, and_right, all_of_lem, all_at, all_below_lem, all_same, on, only, length_tabulate, get_or_tabulate, sum_tabulate, sum_none}
-use Rattle.outlet.specs.Outlets.{outlets_most, outlet_at, cleared_outlet, cleared, from_cell}
+use Rattle.outlet.specs.Outlets.{outlets_most, outlet_at, cleared, from_cell}
 use Rattle.outlet.specs.declared.Outlet.{Outlet}
 use Rattle.outlet.specs.declared.Outlets.{Outlets}
 use Rattle.outlet.proofs.ClearingLaws.{cleared_at, cleared_count}
@@ -26,7 +26,7 @@ use Rattle.reach.specs.declared.refusal.Check.TheVariants.{Pass, Refused}
 use Rattle.reach.proofs.GroundsLaws.{stood, numbered, refused_number}
 use Rattle.reach.proofs.Sound.{Sound, stands, CarriedSound, none_carried_lem, boundary_sound, cells_sound, outlets_few}
 use Rattle.encoding.specs.FromBytes.{number_at, twos, column_at}
-use Rattle.sheet.specs.Header.{header_size, sheet_size, count_of, beds_at, depths_at, discharges_at, masses_at, edition_fits, size_fits, Span, inside, apart_from, columns_clear, spans_of}
+use Rattle.sheet.specs.Header.{header_size, count_of, beds_at, depths_at, discharges_at, masses_at, edition_fits, size_fits, Span, inside, apart_from, columns_clear, spans_of}
 use Rattle.sheet.specs.Ranges.{LayoutOf, Within, cell_at}
 use Rattle.sheet.specs.Opening.{empty_ledger, held_of, sheet_record, lent, lent_fit, open_grounds, opening, unopened_by, OpenCameTo}
 use Rattle.sheet.specs.declared.header.Layout.{Layout}

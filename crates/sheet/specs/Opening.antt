@@ -6,7 +6,6 @@ use Rattle.outlet.specs.declared.Outlets.{Outlets}
 use Rattle.reach.specs.Reach.{Reach, reach_of, no_boundary, held_with}
 use Rattle.reach.specs.Grounds.{Ground, ground, first_refusal, cell_length_fits, boundaries_fit, cells_fit, outlets_fit}
 use Rattle.reach.specs.Outcome.{Outcome, outcome}
-use Rattle.reach.specs.declared.boundary.Boundary.{Boundary}
 use Rattle.reach.specs.declared.held.Held.{Held}
 use Rattle.reach.specs.declared.ledger.Totals.{Totals}
 use Rattle.reach.specs.declared.ledger.Ledger.{Ledger}

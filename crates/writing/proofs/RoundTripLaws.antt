@@ -20,10 +20,10 @@ use Rattle.reach.specs.Limits.{cells_most, wall, open_boundary, fed}
 use Rattle.reach.specs.Reach.{Reach, reach_of, cells, left_boundary, right_boundary, bed_at, depth_at, discharge_at, mass_at, base_at, carried_at, held_with}
 use Rattle.reach.specs.Grounds.{Ground, first_refusal, record_grounds, cell_length_fits, kind_fits, boundary_fits, boundaries_fit, cells_fit, outlets_fit}
 use Rattle.reach.specs.Parts.{drawn_from}
-use Rattle.reach.specs.Outcome.{Outcome, outcome}
+use Rattle.reach.specs.Outcome.{Outcome}
 use Rattle.reach.specs.declared.boundary.Boundary.{Boundary}
 use Rattle.reach.specs.declared.refusal.Check.{Check}
-use Rattle.reach.specs.declared.refusal.Check.TheVariants.{Pass, Refused}
+use Rattle.reach.specs.declared.refusal.Check.TheVariants.{Pass}
 use Rattle.reach.proofs.GroundsLaws.{stood, go_on, further, passed_first}
 use Rattle.reach.proofs.PartsLaws.{outflow_is}
 use Rattle.reach.proofs.Sound.{boundary_sound, CarriedSound, Sound, sound, stands, outlets_few}

@@ -7,7 +7,6 @@ use native.Mathlib.Omega.{arith}
 use lib.ListN.{length, get_or, take}
 use Rattle.reach.specs.Reach.{Reach, cells}
 use Rattle.reach.specs.Grounds.{first_refusal, number_of, outlets_fit}
-use Rattle.reach.specs.Outcome.{Outcome}
 use Rattle.reach.specs.declared.refusal.Check.{Check}
 use Rattle.reach.specs.declared.refusal.Check.TheVariants.{Pass, Refused}
 use Rattle.reach.proofs.GroundsLaws.{numbered, refused_number}

@@ -5,8 +5,6 @@ use Rattle.outlet.specs.Outlets.{cleared}
 use Rattle.outlet.specs.declared.Outlets.{Outlets}
 use Rattle.reach.specs.Reach.{Reach, cells, reach_of, held_with}
 use Rattle.reach.specs.Grounds.{outlets_fit}
-use Rattle.reach.specs.Outcome.{Outcome}
-use Rattle.reach.specs.declared.refusal.Check.{Check}
 use Rattle.reach.specs.declared.refusal.Check.TheVariants.{Pass}
 use Rattle.sheet.specs.Header.{sheet_size, beds_at, depths_at, discharges_at, masses_at}
 use Rattle.sheet.specs.Opening.{empty_ledger, opening}

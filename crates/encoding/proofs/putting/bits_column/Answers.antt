@@ -1,15 +1,15 @@
 -- `encoding::putting::bits_column` meets its contract. The loop: the entries passed are in bits. Assumes nothing.
 use mathlib.Core.Path.{◌≡◌, ◌∙◌, ap}
-use Prim.Native.Nat.{◌-◌, ◌*◌, ◌<◌}
+use Prim.Native.Nat.{◌*◌}
 use native.Mathlib.Omega.{arith}
 use lib.IntN.{pos}
-use lib.ListN.{length, get_or}
+use lib.ListN.{get_or}
 use mir.Syntax.{w64}
 use mir.Val.{to_z, of_z}
 use mir.Facts.{to_z-of_z}
-use borrow.Author.Rules.{rules, sfits_of}
+use borrow.Author.Rules.{sfits_of}
 use Rattle.encoding.specs.ToBytes.{bits_in}
-use Rattle.encoding.proofs.ToBytesLaws.{Mapping, mapping_none, mapping_more, mapping_done}
+use Rattle.encoding.proofs.ToBytesLaws.{mapping_more}
 use Rattle.encoding.proofs.putting.bits_column.Goals as goal
 use Rattle.encoding.proofs.putting.bits_column.Goals.{After-z-1}
 

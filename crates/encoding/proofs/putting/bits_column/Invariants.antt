@@ -1,14 +1,7 @@
-use mathlib.Core.Path.{◌≡◌, ◌∙◌, ap}
-use Prim.Native.Nat.{◌-◌, ◌*◌, ◌<◌}
-use native.Mathlib.Omega.{arith}
-use lib.IntN.{pos}
-use lib.ListN.{length, get_or}
-use mir.Syntax.{w64}
-use mir.Val.{to_z, of_z}
-use mir.Facts.{to_z-of_z}
-use borrow.Author.Rules.{rules, sfits_of}
+use Prim.Native.Nat.{◌-◌, ◌*◌}
+use lib.ListN.{length}
 use Rattle.encoding.specs.ToBytes.{bits_in}
-use Rattle.encoding.proofs.ToBytesLaws.{Mapping, mapping_none, mapping_more, mapping_done}
+use Rattle.encoding.proofs.ToBytesLaws.{Mapping}
 use Rattle.encoding.proofs.putting.bits_column.Given as goal
 
 abbrev pub invariant-loop-i : goal.invariant-loop-i

@@ -1,12 +1,9 @@
 -- `encoding::putting::bits_in` meets its contract. Assumes nothing.
 use mathlib.Core.Path.{◌≡◌, sym, ap, ◌∙◌}
 use Prim.Native.Nat.{ℕ, ◌+◌, ◌-◌}
-use native.Mathlib.Omega.{arith}
 use lib.IntN.{neg_ℤ}
 use mir.Facts.{to_z-of_z}
-use borrow.Author.Rules.{rules}
 use Rattle.numbers.specs.Signed.{positive}
-use Rattle.numbers.proofs.SignedLaws.{abs_parts}
 use Rattle.encoding.proofs.ToBytesLaws.{bits_right, bits_left}
 use Rattle.encoding.proofs.putting.bits_in.Goals as goal
 use Rattle.encoding.proofs.putting.bits_in.Goals.{After-left_part-left}

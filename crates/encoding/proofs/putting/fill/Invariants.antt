@@ -1,9 +1,6 @@
-use Prim.Native.Nat.{◌+◌, ◌-◌, ◌≤◌}
-use native.Mathlib.Omega.{arith}
-use lib.ListN.{length, length-drop}
-use borrow.Author.Rules.{part_to_end}
-use borrow.Author.Rules.{rules}
-use Rattle.encoding.proofs.ToBytesLaws.{Filling, filling_none, filling_more, filling_done, stride}
+use Prim.Native.Nat.{◌-◌}
+use lib.ListN.{length}
+use Rattle.encoding.proofs.ToBytesLaws.{Filling}
 use Rattle.encoding.proofs.putting.fill.Given as goal
 
 abbrev pub invariant-loop-i : goal.invariant-loop-i

@@ -1,7 +1,5 @@
 -- `encoding::putting::put_number` meets its contract. The loop: what is written and what is left spell v. Assumes nothing.
-use Prim.Native.Nat.{◌-◌}
-use borrow.Author.Rules.{rules}
-use Rattle.encoding.proofs.ToBytesLaws.{Putting, putting_none, putting_more, putting_done}
+use Rattle.encoding.proofs.ToBytesLaws.{putting_more, putting_done}
 use Rattle.encoding.proofs.putting.put_number.Goals as goal
 
 pub loop-i-preserved : goal.loop-i-preserved

@@ -1,6 +1,5 @@
 use Prim.Native.Nat.{◌-◌}
-use borrow.Author.Rules.{rules}
-use Rattle.encoding.proofs.ToBytesLaws.{Putting, putting_none, putting_more, putting_done}
+use Rattle.encoding.proofs.ToBytesLaws.{Putting}
 use Rattle.encoding.proofs.putting.put_number.Given as goal
 
 abbrev pub invariant-loop-i : goal.invariant-loop-i

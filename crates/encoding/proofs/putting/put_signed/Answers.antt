@@ -1,12 +1,9 @@
 -- `encoding::putting::put_signed` meets its contract. Assumes nothing.
-use mathlib.Core.Path.{◌∙◌, ap, sym}
+use mathlib.Core.Path.{◌∙◌, ap}
 use mathlib.Core.List.{List, ◌++◌, map}
 use Prim.Native.Nat.{ℕ, ◌*◌}
-use native.Mathlib.Omega.{arith}
-use lib.ListN.{length, take, drop, length-drop, length-map}
-use lib.Seq.{length-take-le, take_at}
-use borrow.Author.Rules.{part_to_end}
-use borrow.Author.Rules.{rules}
+use lib.ListN.{length, take, drop, length-map}
+use lib.Seq.{take_at}
 use Rattle.encoding.specs.ToBytes.{bits_in, bits, column_bytes, written}
 use Rattle.encoding.proofs.ToBytesLaws.{pasted_part}
 use Rattle.encoding.proofs.putting.put_signed.Goals as goal

@@ -1,11 +1,6 @@
-use mathlib.Core.Path.{◌≡◌, refl, sym, ap, ◌∙◌}
-use Prim.Native.Nat.{ℕ, ◌+◌, ◌-◌, ◌*◌, ◌≤◌, ◌<◌}
-use native.Mathlib.Nat.{mul-le-mul_left}
-use native.Mathlib.Omega.{arith}
-use lib.ListN.{length}
-use borrow.Author.Rules.{rules}
-use Rattle.numbers.proofs.IndexLaws.{Written, written_none, written_more, written_all}
-use Rattle.encoding.specs.FromBytes.{number_at, column_at}
+use Prim.Native.Nat.{◌+◌, ◌-◌, ◌*◌, ◌≤◌}
+use Rattle.numbers.proofs.IndexLaws.{Written}
+use Rattle.encoding.specs.FromBytes.{number_at}
 use Rattle.encoding.proofs.reading.read_column.Given as goal
 
 abbrev pub invariant-loop-i : goal.invariant-loop-i

@@ -1,9 +1,7 @@
 -- `encoding::reading::read_number` meets its contract: the loop has the bytes from i on. Assumes nothing.
-use mathlib.Core.Path.{◌≡◌, refl, sym, ap, ◌∙◌}
-use Prim.Native.Nat.{ℕ, ◌+◌, ◌-◌, ◌*◌, ◌^◌, ◌≤◌, ◌<◌}
+use mathlib.Core.Path.{◌≡◌, refl, ap, ◌∙◌}
+use Prim.Native.Nat.{ℕ, ◌+◌, ◌-◌, ◌*◌, ◌^◌, ◌<◌}
 use native.Mathlib.Omega.{arith}
-use lib.ListN.{length, get_or}
-use borrow.Author.Rules.{rules}
 use Rattle.encoding.specs.FromBytes.{number_at}
 use Rattle.encoding.proofs.FromBytesLaws.{number_more, bound_more, room_more}
 use Rattle.encoding.proofs.reading.read_number.Goals as goal

@@ -1,10 +1,6 @@
-use mathlib.Core.Path.{◌≡◌, refl, sym, ap, ◌∙◌}
-use Prim.Native.Nat.{ℕ, ◌+◌, ◌-◌, ◌*◌, ◌^◌, ◌≤◌, ◌<◌}
-use native.Mathlib.Omega.{arith}
-use lib.ListN.{length, get_or}
-use borrow.Author.Rules.{rules}
+use mathlib.Core.Path.{◌≡◌}
+use Prim.Native.Nat.{◌+◌, ◌-◌, ◌^◌, ◌≤◌, ◌<◌}
 use Rattle.encoding.specs.FromBytes.{number_at}
-use Rattle.encoding.proofs.FromBytesLaws.{number_more, bound_more, room_more}
 use Rattle.encoding.proofs.reading.read_number.Given as goal
 
 abbrev pub invariant-loop-i : goal.invariant-loop-i

@@ -1,7 +1,8 @@
 -- `encoding::reading::read_signed` meets its contract. Assumes nothing.
-use mathlib.Core.Path.{◌≡◌, sym, ap, ap₂, ◌∙◌}
+use mathlib.Core.Path.{ap₂, ◌∙◌}
 use mir.Facts.{to_z-of_z}
-use borrow.Author.Rules.{rules, sfits_of}
+use mir.Syntax.{w64}
+use borrow.Author.Rules.{sfits_of}
 use Rattle.encoding.specs.FromBytes.{twos_in, twos}
 use Rattle.encoding.proofs.reading.read_signed.Goals as goal
 

@@ -1,14 +1,8 @@
 -- `encoding::reading::read_signed_column` meets its contract. Assumes nothing.
-use mathlib.Core.Path.{◌≡◌, refl, sym, ap, ◌∙◌}
-use Prim.Native.Nat.{ℕ, ◌+◌, ◌-◌, ◌*◌, ◌≤◌, ◌<◌}
-use native.Mathlib.Nat.{mul-le-mul_left}
 use native.Mathlib.Omega.{arith}
-use lib.ListN.{length}
 use lib.IntN.{pos}
-use mir.Facts.{to_z-of_z}
-use borrow.Author.Rules.{rules, sfits_of}
-use Rattle.numbers.proofs.IndexLaws.{Written, written_none, written_more, written_all}
-use Rattle.encoding.specs.FromBytes.{number_at, twos, column_at}
+use Rattle.numbers.proofs.IndexLaws.{written_all}
+use Rattle.encoding.specs.FromBytes.{column_at}
 use Rattle.encoding.proofs.reading.read_signed_column.Goals as goal
 
 pub returns : goal.returns

@@ -1,13 +1,7 @@
-use mathlib.Core.Path.{◌≡◌, refl, sym, ap, ◌∙◌}
-use Prim.Native.Nat.{ℕ, ◌+◌, ◌-◌, ◌*◌, ◌≤◌, ◌<◌}
-use native.Mathlib.Nat.{mul-le-mul_left}
-use native.Mathlib.Omega.{arith}
-use lib.ListN.{length}
+use Prim.Native.Nat.{◌+◌, ◌-◌, ◌*◌, ◌≤◌}
 use lib.IntN.{pos}
-use mir.Facts.{to_z-of_z}
-use borrow.Author.Rules.{rules, sfits_of}
-use Rattle.numbers.proofs.IndexLaws.{Written, written_none, written_more, written_all}
-use Rattle.encoding.specs.FromBytes.{number_at, twos, column_at}
+use Rattle.numbers.proofs.IndexLaws.{Written}
+use Rattle.encoding.specs.FromBytes.{number_at, twos}
 use Rattle.encoding.proofs.reading.read_signed_column.Given as goal
 
 abbrev pub invariant-loop-i : goal.invariant-loop-i

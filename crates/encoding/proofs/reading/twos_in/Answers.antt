@@ -1,10 +1,9 @@
 -- `encoding::reading::twos_in` meets its contract. Assumes nothing.
-use mathlib.Core.Path.{◌≡◌, sym, ◌∙◌}
+use mathlib.Core.Path.{sym, ◌∙◌}
 use Prim.Native.Nat.{◌-◌, ◌<◌}
 use native.Mathlib.Omega.{arith}
 use mir.Syntax.{w64}
 use mir.Facts.{to_z_pos, to_z-of_z}
-use borrow.Author.Rules.{rules}
 use Rattle.encoding.proofs.FromBytesLaws.{twos_low, twos_high, down, down_fits}
 use Rattle.encoding.proofs.reading.twos_in.Goals as goal
 use Rattle.encoding.proofs.reading.twos_in.Goals.{Else-v-half}

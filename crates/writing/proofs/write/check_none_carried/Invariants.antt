@@ -1,0 +1,18 @@
+use mathlib.Core.Path.{◌≡◌}
+use mathlib.Core.Bool.{Bool, true}
+use mathlib.Core.List.{List}
+use Prim.Native.Nat.{ℕ, ◌-◌, ◌≤◌}
+use lib.Dec.{eqb}
+use lib.IntN.{ℤ, pos, nat_abs}
+use lib.ListN.{get_or}
+use Rattle.numbers.specs.Index.{all_below}
+use Rattle.writing.proofs.write.check_none_carried.Given as goal
+
+abbrev none_at : List ℤ → ℕ → Bool
+none_at c i = eqb (nat_abs (get_or c i (pos 0))) 0
+
+abbrev pub invariant-loop-i : goal.invariant-loop-i
+invariant-loop-i l = (l.i ≤ l.n) × (all_below l.i (none_at l.carried) ≡ true)
+
+abbrev pub decreases-loop-i : goal.decreases-loop-i
+decreases-loop-i l = l.n - l.i
