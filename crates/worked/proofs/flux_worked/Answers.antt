@@ -4,10 +4,9 @@ use Rattle.numbers.specs.Search.{climb, least_reaching}
 use Rattle.flux.specs.Crossing.{upper, lower, water_of, water_flux, second_moment, momentum_of, momentum_flux, still_thrust}
 use Rattle.flux.specs.Velocity.{velocity}
 use Rattle.flux.specs.Wave.{wave_speed}
-use Rattle.worked.proofs.flux_worked.Statement.{statement}
-use Rattle.worked.proofs.flux_worked.Tie as tie
+use Rattle.worked.proofs.flux_worked.Goals as goal
 
-returns : tie.Need-returns
+pub returns : goal.returns
 unfolding climb least_reaching upper lower water_of water_flux second_moment momentum_of momentum_flux still_thrust velocity wave_speed
 returns c =
     record {
@@ -27,6 +26,3 @@ returns c =
       Q_away = refl;
       S_still = refl;
     }
-
-pub flux_worked_spec : {M : Type 1} → statement M
-flux_worked_spec = tie.close (tie.spec returns)
