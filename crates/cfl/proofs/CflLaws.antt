@@ -95,7 +95,7 @@ module _ (speed : ℕ → ℕ) where
   leads zero = alone 0
   leads (suc k) =
       let old = leads k in
-      by_most (speed (fastest_place speed k)) (speed (suc k)) (λ b. Leads speed 0 (suc k) (cond b (suc k) (fastest_place speed k)))
+      by_most _ _ (λ b. Leads speed 0 (suc k) (cond b (suc k) (fastest_place speed k)))
       (λ asFast. record {
         within = omega arith;
         greatest = λ i z l. by_last (λ i. speed i ≤ speed (suc k)) k i l (omega arith) (λ m. omega (arith, old.greatest i z m));
