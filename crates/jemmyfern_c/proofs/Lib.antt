@@ -1,4 +1,3 @@
 pub mod Functions
 pub mod Returns
 pub mod Says
-pub mod lent

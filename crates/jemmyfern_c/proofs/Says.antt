@@ -4,7 +4,7 @@ use mathlib.Core.Path.{◌≡◌, refl}
 use mathlib.Core.List.{List}
 use Prim.Native.Nat.{ℕ}
 use contract.Lifetimes.{Lfts}
-use denote.Ref.{MutBor, at_last}
+use denote.Ref.{Bor, MutBor, at_last, as_bor}
 use seplogic.Ra.Ura.{Ura}
 use prog.Memory.{Memory}
 use prog.Routine.{Routine}
@@ -36,7 +36,7 @@ use Rattle.jemmyfern_c.specs.contracts.jemmyfern_greatest_step as greatest-claus
 use Rattle.jemmyfern_c.specs.contracts.jemmyfern_write as write-clauses
 use Rattle.jemmyfern_c.proofs.Functions.{pair, Lent, given, OpenLeft, StepLeft, TransportLeft, OpenAsks, OpenEnsures, StepAsks, StepEnsures, TransportAsks, TransportEnsures, SettingAsks, SettingEnsures, GreatestAsks, GreatestEnsures, WriteAsks, WriteEnsures}
 
-pub open_asks_nothing : (κs : Lfts 8) (sheet : MutBor (List ℕ)) (l : Lent) → OpenAsks κs sheet l
+pub open_asks_nothing : (κs : Lfts 8) (sheet : Bor (List ℕ)) (l : Lent) → OpenAsks κs sheet l
 open_asks_nothing κs sheet l = tt
 
 pub step_asks_nothing : (κs : Lfts 7) (l : Lent) (X : ℕ) (k : Held) (t F : ℕ) → StepAsks κs l X k t F
@@ -55,7 +55,7 @@ pub write_asks_nothing : (κs : Lfts 8) (l : Lent) (X : ℕ) (k : Held) (out : M
 write_asks_nothing κs l X k out = tt
 
 -- the contract as it is written in src/ is the definition: `Post` and the right hand side are one type, so both ways
-pub open_says : (κs : Lfts 8) (sheet : MutBor (List ℕ)) (l : Lent) (r : Opened) (e : OpenLeft)
+pub open_says : (κs : Lfts 8) (sheet : Bor (List ℕ)) (l : Lent) (r : Opened) (e : OpenLeft)
     → OpenEnsures κs sheet l r e ≡ (OpenCameTo (opening sheet.now (reach_of l.bed.now l.depth.now l.discharge.now l.mass.now l.base.now l.carried.now 0 (none_held (loaded l.outlets.now)))) (open_with r e.outlets) e.bed e.depth e.discharge e.mass e.base e.carried × RestKept l.outlets.now e.outlets)
 open_says κs sheet l r e = refl
 
@@ -88,35 +88,35 @@ module _ {M : Type 1} {𝓤 : Ura M} (𝓛 : Logic 𝓤) (mem : Memory → SProp
   pub open_owes_nothing : AsksNothing 𝓤 open-clauses.signature (open-clauses.spec 𝓛 mem run)
   open_owes_nothing κs a g = refl
 
-  pub open_clause : (κs : Lfts 8) (sheet : MutBor (List ℕ)) (l : Lent) (r : Opened) (e : OpenLeft) → open-clauses.ensures-1 𝓛 κs mem run sheet l.bed l.depth l.discharge l.mass l.base l.carried l.outlets (record { entry = sheet; exit = sheet }) (record { entry = l.bed; exit = at_last l.bed e.bed }) (record { entry = l.depth; exit = at_last l.depth e.depth }) (record { entry = l.discharge; exit = at_last l.discharge e.discharge }) (record { entry = l.mass; exit = at_last l.mass e.mass }) (record { entry = l.base; exit = at_last l.base e.base }) (record { entry = l.carried; exit = at_last l.carried e.carried }) (record { entry = l.outlets; exit = at_last l.outlets e.outlets }) r ≡ fact 𝓤 (OpenEnsures κs sheet l r e)
+  pub open_clause : (κs : Lfts 8) (sheet : Bor (List ℕ)) (l : Lent) (r : Opened) (e : OpenLeft) → open-clauses.ensures-1 𝓛 κs mem run sheet l.bed l.depth l.discharge l.mass l.base l.carried l.outlets (record { entry = sheet; exit = sheet }) (record { entry = l.bed; exit = at_last l.bed e.bed }) (record { entry = l.depth; exit = at_last l.depth e.depth }) (record { entry = l.discharge; exit = at_last l.discharge e.discharge }) (record { entry = l.mass; exit = at_last l.mass e.mass }) (record { entry = l.base; exit = at_last l.base e.base }) (record { entry = l.carried; exit = at_last l.carried e.carried }) (record { entry = l.outlets; exit = at_last l.outlets e.outlets }) r ≡ fact 𝓤 (OpenEnsures κs sheet l r e)
   open_clause κs sheet l r e = refl
 
   pub step_owes_nothing : AsksNothing 𝓤 step-clauses.signature (step-clauses.spec 𝓛 mem run)
   step_owes_nothing κs a g = refl
 
-  pub step_clause : (κs : Lfts 7) (l : Lent) (X : ℕ) (k : Held) (t F : ℕ) (r : Stepped) (e : StepLeft) → step-clauses.ensures-1 𝓛 κs mem run l.bed l.depth l.discharge l.mass l.base l.carried l.outlets X (pair k.boundaries) k.ledger t F (record { entry = l.bed; exit = l.bed }) (record { entry = l.depth; exit = at_last l.depth e.depth }) (record { entry = l.discharge; exit = at_last l.discharge e.discharge }) (record { entry = l.mass; exit = at_last l.mass e.mass }) (record { entry = l.base; exit = at_last l.base e.base }) (record { entry = l.carried; exit = at_last l.carried e.carried }) (record { entry = l.outlets; exit = at_last l.outlets e.outlets }) (record { entry = X; exit = X }) (record { entry = pair k.boundaries; exit = pair k.boundaries }) (record { entry = k.ledger; exit = k.ledger }) (record { entry = t; exit = t }) (record { entry = F; exit = F }) r ≡ fact 𝓤 (StepEnsures κs l X k t F r e)
+  pub step_clause : (κs : Lfts 7) (l : Lent) (X : ℕ) (k : Held) (t F : ℕ) (r : Stepped) (e : StepLeft) → step-clauses.ensures-1 𝓛 κs mem run (as_bor l.bed) l.depth l.discharge l.mass l.base l.carried l.outlets X (pair k.boundaries) k.ledger t F (record { entry = as_bor l.bed; exit = as_bor l.bed }) (record { entry = l.depth; exit = at_last l.depth e.depth }) (record { entry = l.discharge; exit = at_last l.discharge e.discharge }) (record { entry = l.mass; exit = at_last l.mass e.mass }) (record { entry = l.base; exit = at_last l.base e.base }) (record { entry = l.carried; exit = at_last l.carried e.carried }) (record { entry = l.outlets; exit = at_last l.outlets e.outlets }) (record { entry = X; exit = X }) (record { entry = pair k.boundaries; exit = pair k.boundaries }) (record { entry = k.ledger; exit = k.ledger }) (record { entry = t; exit = t }) (record { entry = F; exit = F }) r ≡ fact 𝓤 (StepEnsures κs l X k t F r e)
   step_clause κs l X k t F r e = refl
 
   pub transport_owes_nothing : AsksNothing 𝓤 transport-clauses.signature (transport-clauses.spec 𝓛 mem run)
   transport_owes_nothing κs a g = refl
 
-  pub transport_clause : (κs : Lfts 7) (l : Lent) (X : ℕ) (k : Held) (r : Answer) (e : TransportLeft) → transport-clauses.ensures-1 𝓛 κs mem run l.bed l.depth l.discharge l.mass l.base l.carried l.outlets X (pair k.boundaries) k.ledger (record { entry = l.bed; exit = l.bed }) (record { entry = l.depth; exit = l.depth }) (record { entry = l.discharge; exit = l.discharge }) (record { entry = l.mass; exit = at_last l.mass e.mass }) (record { entry = l.base; exit = at_last l.base e.base }) (record { entry = l.carried; exit = at_last l.carried e.carried }) (record { entry = l.outlets; exit = at_last l.outlets e.outlets }) (record { entry = X; exit = X }) (record { entry = pair k.boundaries; exit = pair k.boundaries }) (record { entry = k.ledger; exit = k.ledger }) r ≡ fact 𝓤 (TransportEnsures κs l X k r e)
+  pub transport_clause : (κs : Lfts 7) (l : Lent) (X : ℕ) (k : Held) (r : Answer) (e : TransportLeft) → transport-clauses.ensures-1 𝓛 κs mem run (as_bor l.bed) (as_bor l.depth) (as_bor l.discharge) l.mass l.base l.carried l.outlets X (pair k.boundaries) k.ledger (record { entry = as_bor l.bed; exit = as_bor l.bed }) (record { entry = as_bor l.depth; exit = as_bor l.depth }) (record { entry = as_bor l.discharge; exit = as_bor l.discharge }) (record { entry = l.mass; exit = at_last l.mass e.mass }) (record { entry = l.base; exit = at_last l.base e.base }) (record { entry = l.carried; exit = at_last l.carried e.carried }) (record { entry = l.outlets; exit = at_last l.outlets e.outlets }) (record { entry = X; exit = X }) (record { entry = pair k.boundaries; exit = pair k.boundaries }) (record { entry = k.ledger; exit = k.ledger }) r ≡ fact 𝓤 (TransportEnsures κs l X k r e)
   transport_clause κs l X k r e = refl
 
   pub setting_owes_nothing : AsksNothing 𝓤 setting-clauses.signature (setting-clauses.spec 𝓛 mem run)
   setting_owes_nothing κs a g = refl
 
-  pub setting_clause : (κs : Lfts 7) (l : Lent) (X : ℕ) (k : Held) (new : List Boundary) (r : Answer) (e : TransportLeft) → setting-clauses.ensures-1 𝓛 κs mem run l.bed l.depth l.discharge l.mass l.base l.carried l.outlets X (pair k.boundaries) k.ledger (pair new) (record { entry = l.bed; exit = l.bed }) (record { entry = l.depth; exit = l.depth }) (record { entry = l.discharge; exit = l.discharge }) (record { entry = l.mass; exit = at_last l.mass e.mass }) (record { entry = l.base; exit = at_last l.base e.base }) (record { entry = l.carried; exit = at_last l.carried e.carried }) (record { entry = l.outlets; exit = at_last l.outlets e.outlets }) (record { entry = X; exit = X }) (record { entry = pair k.boundaries; exit = pair k.boundaries }) (record { entry = k.ledger; exit = k.ledger }) (record { entry = pair new; exit = pair new }) r ≡ fact 𝓤 (SettingEnsures κs l X k new r e)
+  pub setting_clause : (κs : Lfts 7) (l : Lent) (X : ℕ) (k : Held) (new : List Boundary) (r : Answer) (e : TransportLeft) → setting-clauses.ensures-1 𝓛 κs mem run (as_bor l.bed) (as_bor l.depth) (as_bor l.discharge) l.mass l.base l.carried l.outlets X (pair k.boundaries) k.ledger (pair new) (record { entry = as_bor l.bed; exit = as_bor l.bed }) (record { entry = as_bor l.depth; exit = as_bor l.depth }) (record { entry = as_bor l.discharge; exit = as_bor l.discharge }) (record { entry = l.mass; exit = at_last l.mass e.mass }) (record { entry = l.base; exit = at_last l.base e.base }) (record { entry = l.carried; exit = at_last l.carried e.carried }) (record { entry = l.outlets; exit = at_last l.outlets e.outlets }) (record { entry = X; exit = X }) (record { entry = pair k.boundaries; exit = pair k.boundaries }) (record { entry = k.ledger; exit = k.ledger }) (record { entry = pair new; exit = pair new }) r ≡ fact 𝓤 (SettingEnsures κs l X k new r e)
   setting_clause κs l X k new r e = refl
 
   pub greatest_owes_nothing : AsksNothing 𝓤 greatest-clauses.signature (greatest-clauses.spec 𝓛 mem run)
   greatest_owes_nothing κs a g = refl
 
-  pub greatest_clause : (κs : Lfts 7) (l : Lent) (X : ℕ) (k : Held) (r : Greatest) → greatest-clauses.ensures-1 𝓛 κs mem run l.bed l.depth l.discharge l.mass l.base l.carried l.outlets X (pair k.boundaries) k.ledger (record { entry = l.bed; exit = l.bed }) (record { entry = l.depth; exit = l.depth }) (record { entry = l.discharge; exit = l.discharge }) (record { entry = l.mass; exit = l.mass }) (record { entry = l.base; exit = l.base }) (record { entry = l.carried; exit = l.carried }) (record { entry = l.outlets; exit = l.outlets }) (record { entry = X; exit = X }) (record { entry = pair k.boundaries; exit = pair k.boundaries }) (record { entry = k.ledger; exit = k.ledger }) r ≡ fact 𝓤 (GreatestEnsures κs l X k r)
+  pub greatest_clause : (κs : Lfts 7) (l : Lent) (X : ℕ) (k : Held) (r : Greatest) → greatest-clauses.ensures-1 𝓛 κs mem run (as_bor l.bed) (as_bor l.depth) (as_bor l.discharge) (as_bor l.mass) (as_bor l.base) (as_bor l.carried) (as_bor l.outlets) X (pair k.boundaries) k.ledger (record { entry = as_bor l.bed; exit = as_bor l.bed }) (record { entry = as_bor l.depth; exit = as_bor l.depth }) (record { entry = as_bor l.discharge; exit = as_bor l.discharge }) (record { entry = as_bor l.mass; exit = as_bor l.mass }) (record { entry = as_bor l.base; exit = as_bor l.base }) (record { entry = as_bor l.carried; exit = as_bor l.carried }) (record { entry = as_bor l.outlets; exit = as_bor l.outlets }) (record { entry = X; exit = X }) (record { entry = pair k.boundaries; exit = pair k.boundaries }) (record { entry = k.ledger; exit = k.ledger }) r ≡ fact 𝓤 (GreatestEnsures κs l X k r)
   greatest_clause κs l X k r = refl
 
   pub write_owes_nothing : AsksNothing 𝓤 write-clauses.signature (write-clauses.spec 𝓛 mem run)
   write_owes_nothing κs a g = refl
 
-  pub write_clause : (κs : Lfts 8) (l : Lent) (X : ℕ) (k : Held) (out : MutBor (List ℕ)) (r : Answer) (written : List ℕ) → write-clauses.ensures-1 𝓛 κs mem run l.bed l.depth l.discharge l.mass l.base l.carried l.outlets X (pair k.boundaries) k.ledger out (record { entry = l.bed; exit = l.bed }) (record { entry = l.depth; exit = l.depth }) (record { entry = l.discharge; exit = l.discharge }) (record { entry = l.mass; exit = l.mass }) (record { entry = l.base; exit = l.base }) (record { entry = l.carried; exit = l.carried }) (record { entry = l.outlets; exit = l.outlets }) (record { entry = X; exit = X }) (record { entry = pair k.boundaries; exit = pair k.boundaries }) (record { entry = k.ledger; exit = k.ledger }) (record { entry = out; exit = at_last out written }) r ≡ fact 𝓤 (WriteEnsures κs l X k out r written)
+  pub write_clause : (κs : Lfts 8) (l : Lent) (X : ℕ) (k : Held) (out : MutBor (List ℕ)) (r : Answer) (written : List ℕ) → write-clauses.ensures-1 𝓛 κs mem run (as_bor l.bed) (as_bor l.depth) (as_bor l.discharge) (as_bor l.mass) (as_bor l.base) (as_bor l.carried) (as_bor l.outlets) X (pair k.boundaries) k.ledger out (record { entry = as_bor l.bed; exit = as_bor l.bed }) (record { entry = as_bor l.depth; exit = as_bor l.depth }) (record { entry = as_bor l.discharge; exit = as_bor l.discharge }) (record { entry = as_bor l.mass; exit = as_bor l.mass }) (record { entry = as_bor l.base; exit = as_bor l.base }) (record { entry = as_bor l.carried; exit = as_bor l.carried }) (record { entry = as_bor l.outlets; exit = as_bor l.outlets }) (record { entry = X; exit = X }) (record { entry = pair k.boundaries; exit = pair k.boundaries }) (record { entry = k.ledger; exit = k.ledger }) (record { entry = out; exit = at_last out written }) r ≡ fact 𝓤 (WriteEnsures κs l X k out r written)
   write_clause κs l X k out r written = refl
