@@ -3,7 +3,7 @@
 -- depends on them.)
 use Rattle.std.specs.Prelude.{◌≡◌, true, false, List, [], ◌∷◌, ℕ, pos, length}
 use contract.Lifetimes.{Lfts}
-use Rattle.std.specs.Borrow.{Bor}
+use Rattle.std.specs.Borrow.{Bor, MutBor}
 use Rattle.outlet.specs.Outlets.{loaded}
 use Rattle.reach.specs.Grounds.{Ground, record_grounds}
 use Rattle.reach.specs.declared.boundary.Boundary.{Boundary}
@@ -26,7 +26,7 @@ pub record AsksNothing : Type 0 where
   pub transport : (κs : Lfts 7) (l : Lent) (X : ℕ) (k : Held) → TransportAsks κs l X k
   pub set_boundaries_lem : (κs : Lfts 7) (l : Lent) (X : ℕ) (k : Held) (new : List Boundary) → SettingAsks κs l X k new
   pub greatest_step_lem : (κs : Lfts 7) (l : Lent) (X : ℕ) (k : Held) → GreatestAsks κs l X k
-  pub write : (κs : Lfts 8) (l : Lent) (X : ℕ) (k : Held) (out : Bor (List ℕ)) → WriteAsks κs l X k out
+  pub write : (κs : Lfts 8) (l : Lent) (X : ℕ) (k : Held) (out : MutBor (List ℕ)) → WriteAsks κs l X k out
 
 -- n is the number of the first ground of a list that does not stand, 0 where all of them stand
 unfoldable pub First : ℕ → List Ground → Type 0
@@ -45,7 +45,7 @@ pub record RefusedByTheFirst : Type 0 where
       → First r.refusal (transport_grounds (given l X k) new)
   pub greatest_step_lem : (κs : Lfts 7) (l : Lent) (X : ℕ) (k : Held) (r : Greatest) → GreatestEnsures κs l X k r
       → First r.refusal (record_grounds (given l X k) k.boundaries)
-  pub write : (κs : Lfts 8) (l : Lent) (X : ℕ) (k : Held) (out : Bor (List ℕ)) (r : Answer) (written : List ℕ) → WriteEnsures κs l X k out r written
+  pub write : (κs : Lfts 8) (l : Lent) (X : ℕ) (k : Held) (out : MutBor (List ℕ)) (r : Answer) (written : List ℕ) → WriteEnsures κs l X k out r written
       → First r.refusal (write_grounds (given l X k) (length out.now))
 
 abbrev pub IsRefused : ℕ → Type 0
@@ -79,5 +79,5 @@ pub record StaysAsItCame : Type 0 where
       × (e ≡ record { mass = l.mass.now; base = l.base.now; carried = l.carried.now; outlets = l.outlets.now })
   pub greatest_step_lem : (κs : Lfts 7) (l : Lent) (X : ℕ) (k : Held) (r : Greatest) → GreatestEnsures κs l X k r → IsRefused r.refusal
       → r ≡ record { refusal = r.refusal; boundaries = k.boundaries; ledger = k.ledger; time = 0; place = 0 }
-  pub write : (κs : Lfts 8) (l : Lent) (X : ℕ) (k : Held) (out : Bor (List ℕ)) (r : Answer) (written : List ℕ) → WriteEnsures κs l X k out r written → IsRefused r.refusal
+  pub write : (κs : Lfts 8) (l : Lent) (X : ℕ) (k : Held) (out : MutBor (List ℕ)) (r : Answer) (written : List ℕ) → WriteEnsures κs l X k out r written → IsRefused r.refusal
       → (r ≡ record { refusal = r.refusal; boundaries = k.boundaries; ledger = k.ledger }) × (written ≡ out.now)

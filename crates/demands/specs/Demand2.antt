@@ -1,7 +1,7 @@
 -- Demand 2, sentence by sentence, of the six functions of include/jemmyfern.h. (Names as in Demand1.antt.)
 use Rattle.std.specs.Prelude.{◌≡◌, true, false, List, ◌++◌, ℕ, ◌+◌, ◌*◌, ◌≤◌, ◌<◌, ℤ, pos, neg_ℤ, ◌+ℤ◌, length, get_or, take, drop}
 use contract.Lifetimes.{Lfts}
-use Rattle.std.specs.Borrow.{Bor}
+use Rattle.std.specs.Borrow.{Bor, MutBor}
 use Rattle.numbers.specs.Index.{sum}
 use Rattle.numbers.specs.Signed.{positive}
 use Rattle.outlet.specs.Outlets.{no_outlet, outlet_at, cleared, loaded}
@@ -74,7 +74,7 @@ pub record DigitForDigit : Type 0 where
   pub greatest_step_lem : (κs : Lfts 7) (l : Lent) (X : ℕ) (k : Held) (r : Greatest) → GreatestEnsures κs l X k r → r.refusal ≡ 0
       → r ≡ record { refusal = 0; boundaries = k.boundaries; ledger = k.ledger; time = greatest_time (given l X k); place = greatest_place (given l X k) }
   -- the sheet stands at the start of the output, whose other bytes keep their values
-  pub write : (κs : Lfts 8) (l : Lent) (X : ℕ) (k : Held) (out : Bor (List ℕ)) (r : Answer) (written : List ℕ) → WriteEnsures κs l X k out r written → r.refusal ≡ 0
+  pub write : (κs : Lfts 8) (l : Lent) (X : ℕ) (k : Held) (out : MutBor (List ℕ)) (r : Answer) (written : List ℕ) → WriteEnsures κs l X k out r written → r.refusal ≡ 0
       → (r.boundaries ≡ k.boundaries) × (r.ledger ≡ k.ledger) × (written ≡ sheet_bytes (given l X k) ++ drop (length (sheet_bytes (given l X k))) out.now)
 
 -- columns that are lent for n cells
@@ -90,7 +90,7 @@ pub record LentCells (n : ℕ) (l : Lent) : Type 0 where
 -- lent for as many cells, however many these are, and with whatever outlets fit them: 'a record read back has the outlets lent to that opening', drawn water and totals 0. (A write that is not refused was of a settled record, by 14, and then b = h, by 8. The pair of boundaries is an array of two.)
 abbrev pub ReadBack : Type 0
 ReadBack =
-    (κs κs' : Lfts 8) (l l' : Lent) (X : ℕ) (k : Held) (out sheet : Bor (List ℕ)) (w : Answer) (written : List ℕ) (r : Opened) (e : OpenLeft) →
+    (κs κs' : Lfts 8) (l l' : Lent) (X : ℕ) (k : Held) (out : MutBor (List ℕ)) (sheet : Bor (List ℕ)) (w : Answer) (written : List ℕ) (r : Opened) (e : OpenLeft) →
     length k.boundaries ≡ 2 →
     WriteEnsures κs l X k out w written →
     w.refusal ≡ 0 →
@@ -106,7 +106,7 @@ ReadBack =
 -- discharges, masses, is what jemmyfern_write writes of what was opened
 abbrev pub WroteAgain : Type 0
 WroteAgain =
-    (κs κs' : Lfts 8) (sheet out : Bor (List ℕ)) (l l' : Lent) (r : Opened) (e : OpenLeft) (w : Answer) (written : List ℕ) →
+    (κs κs' : Lfts 8) (sheet : Bor (List ℕ)) (out : MutBor (List ℕ)) (l l' : Lent) (r : Opened) (e : OpenLeft) (w : Answer) (written : List ℕ) →
     ((i : ℕ) → i < length sheet.now → get_or sheet.now i 0 < 256) →
     beds_at sheet.now < depths_at sheet.now →
     depths_at sheet.now < discharges_at sheet.now →

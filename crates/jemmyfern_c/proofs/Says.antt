@@ -34,7 +34,125 @@ use Rattle.jemmyfern_c.specs.contracts.jemmyfern_transport as transport-clauses
 use Rattle.jemmyfern_c.specs.contracts.jemmyfern_set_boundaries as setting-clauses
 use Rattle.jemmyfern_c.specs.contracts.jemmyfern_greatest_step as greatest-clauses
 use Rattle.jemmyfern_c.specs.contracts.jemmyfern_write as write-clauses
+use Rattle.jemmyfern_c.proofs.jemmyfern_open.Reads as open-reads
+use Rattle.jemmyfern_c.proofs.jemmyfern_step.Reads as step-reads
+use Rattle.jemmyfern_c.proofs.jemmyfern_transport.Reads as transport-reads
+use Rattle.jemmyfern_c.proofs.jemmyfern_set_boundaries.Reads as setting-reads
+use Rattle.jemmyfern_c.proofs.jemmyfern_greatest_step.Reads as greatest-reads
+use Rattle.jemmyfern_c.proofs.jemmyfern_write.Reads as write-reads
 use Rattle.jemmyfern_c.proofs.Functions.{pair, Lent, given, OpenLeft, StepLeft, TransportLeft, OpenAsks, OpenEnsures, StepAsks, StepEnsures, TransportAsks, TransportEnsures, SettingAsks, SettingEnsures, GreatestAsks, GreatestEnsures, WriteAsks, WriteEnsures}
+
+-- ---- what Rattle reads in the contract of src/, as a caller meets it
+
+-- ---- jemmyfern_open
+
+abbrev OpenPre : Lfts 8 → (sheet : Bor (List ℕ)) → Lent → Type 0
+OpenPre κs sheet l = open-reads.Pre κs (sheet, (l.bed, (l.depth, (l.discharge, (l.mass, (l.base, (l.carried, (l.outlets, tt))))))))
+
+abbrev OpenPost : Lfts 8 → (sheet : Bor (List ℕ)) → Lent → Opened → OpenLeft → Type 0
+OpenPost κs sheet l r e =
+    open-reads.Post κs
+    (sheet, (l.bed, (l.depth, (l.discharge, (l.mass, (l.base, (l.carried, (l.outlets, tt))))))))
+    r
+    (sheet, (at_last l.bed e.bed, (at_last l.depth e.depth, (at_last l.discharge e.discharge, (at_last l.mass e.mass, (at_last l.base e.base, (at_last l.carried e.carried, (at_last l.outlets e.outlets, tt))))))))
+
+-- ---- jemmyfern_step
+
+abbrev StepPre : Lfts 7 → Lent → (X : ℕ) → Held → (t F : ℕ) → Type 0
+StepPre κs l X k t F = step-reads.Pre κs (as_bor l.bed, (l.depth, (l.discharge, (l.mass, (l.base, (l.carried, (l.outlets, (X, (pair k.boundaries, (k.ledger, (t, (F, tt))))))))))))
+
+abbrev StepPost : Lfts 7 → Lent → (X : ℕ) → Held → (t F : ℕ) → Stepped → StepLeft → Type 0
+StepPost κs l X k t F r e =
+    step-reads.Post κs
+    (as_bor l.bed, (l.depth, (l.discharge, (l.mass, (l.base, (l.carried, (l.outlets, (X, (pair k.boundaries, (k.ledger, (t, (F, tt))))))))))))
+    r
+    (as_bor l.bed, (at_last l.depth e.depth, (at_last l.discharge e.discharge, (at_last l.mass e.mass, (at_last l.base e.base, (at_last l.carried e.carried, (at_last l.outlets e.outlets, (X, (pair k.boundaries, (k.ledger, (t, (F, tt))))))))))))
+
+-- ---- jemmyfern_transport
+
+abbrev TransportPre : Lfts 7 → Lent → (X : ℕ) → Held → Type 0
+TransportPre κs l X k = transport-reads.Pre κs (as_bor l.bed, (as_bor l.depth, (as_bor l.discharge, (l.mass, (l.base, (l.carried, (l.outlets, (X, (pair k.boundaries, (k.ledger, tt))))))))))
+
+abbrev TransportPost : Lfts 7 → Lent → (X : ℕ) → Held → Answer → TransportLeft → Type 0
+TransportPost κs l X k r e =
+    transport-reads.Post κs
+    (as_bor l.bed, (as_bor l.depth, (as_bor l.discharge, (l.mass, (l.base, (l.carried, (l.outlets, (X, (pair k.boundaries, (k.ledger, tt))))))))))
+    r
+    (as_bor l.bed, (as_bor l.depth, (as_bor l.discharge, (at_last l.mass e.mass, (at_last l.base e.base, (at_last l.carried e.carried, (at_last l.outlets e.outlets, (X, (pair k.boundaries, (k.ledger, tt))))))))))
+
+-- ---- jemmyfern_set_boundaries
+
+abbrev SettingPre : Lfts 7 → Lent → (X : ℕ) → Held → (new : List Boundary) → Type 0
+SettingPre κs l X k new = setting-reads.Pre κs (as_bor l.bed, (as_bor l.depth, (as_bor l.discharge, (l.mass, (l.base, (l.carried, (l.outlets, (X, (pair k.boundaries, (k.ledger, (pair new, tt)))))))))))
+
+abbrev SettingPost : Lfts 7 → Lent → (X : ℕ) → Held → (new : List Boundary) → Answer → TransportLeft → Type 0
+SettingPost κs l X k new r e =
+    setting-reads.Post κs
+    (as_bor l.bed, (as_bor l.depth, (as_bor l.discharge, (l.mass, (l.base, (l.carried, (l.outlets, (X, (pair k.boundaries, (k.ledger, (pair new, tt)))))))))))
+    r
+    (as_bor l.bed, (as_bor l.depth, (as_bor l.discharge, (at_last l.mass e.mass, (at_last l.base e.base, (at_last l.carried e.carried, (at_last l.outlets e.outlets, (X, (pair k.boundaries, (k.ledger, (pair new, tt)))))))))))
+
+-- ---- jemmyfern_greatest_step
+
+abbrev GreatestPre : Lfts 7 → Lent → (X : ℕ) → Held → Type 0
+GreatestPre κs l X k = greatest-reads.Pre κs (as_bor l.bed, (as_bor l.depth, (as_bor l.discharge, (as_bor l.mass, (as_bor l.base, (as_bor l.carried, (as_bor l.outlets, (X, (pair k.boundaries, (k.ledger, tt))))))))))
+
+abbrev GreatestPost : Lfts 7 → Lent → (X : ℕ) → Held → Greatest → Type 0
+GreatestPost κs l X k r =
+    greatest-reads.Post κs
+    (as_bor l.bed, (as_bor l.depth, (as_bor l.discharge, (as_bor l.mass, (as_bor l.base, (as_bor l.carried, (as_bor l.outlets, (X, (pair k.boundaries, (k.ledger, tt))))))))))
+    r
+    (as_bor l.bed, (as_bor l.depth, (as_bor l.discharge, (as_bor l.mass, (as_bor l.base, (as_bor l.carried, (as_bor l.outlets, (X, (pair k.boundaries, (k.ledger, tt))))))))))
+
+-- ---- jemmyfern_write
+
+abbrev WritePre : Lfts 8 → Lent → (X : ℕ) → Held → (out : MutBor (List ℕ)) → Type 0
+WritePre κs l X k out = write-reads.Pre κs (as_bor l.bed, (as_bor l.depth, (as_bor l.discharge, (as_bor l.mass, (as_bor l.base, (as_bor l.carried, (as_bor l.outlets, (X, (pair k.boundaries, (k.ledger, (out, tt)))))))))))
+
+abbrev WritePost : Lfts 8 → Lent → (X : ℕ) → Held → (out : MutBor (List ℕ)) → Answer → (written : List ℕ) → Type 0
+WritePost κs l X k out r written =
+    write-reads.Post κs
+    (as_bor l.bed, (as_bor l.depth, (as_bor l.discharge, (as_bor l.mass, (as_bor l.base, (as_bor l.carried, (as_bor l.outlets, (X, (pair k.boundaries, (k.ledger, (out, tt)))))))))))
+    r
+    (as_bor l.bed, (as_bor l.depth, (as_bor l.discharge, (as_bor l.mass, (as_bor l.base, (as_bor l.carried, (as_bor l.outlets, (X, (pair k.boundaries, (k.ledger, (at_last out written, tt)))))))))))
+
+-- ---- is what Functions.antt says: one type, so both ways
+
+pub open_pre : (κs : Lfts 8) (sheet : Bor (List ℕ)) (l : Lent) → OpenPre κs sheet l ≡ OpenAsks κs sheet l
+open_pre κs sheet l = refl
+
+pub open_post : (κs : Lfts 8) (sheet : Bor (List ℕ)) (l : Lent) (r : Opened) (e : OpenLeft) → OpenPost κs sheet l r e ≡ OpenEnsures κs sheet l r e
+open_post κs sheet l r e = refl
+
+pub step_pre : (κs : Lfts 7) (l : Lent) (X : ℕ) (k : Held) (t F : ℕ) → StepPre κs l X k t F ≡ StepAsks κs l X k t F
+step_pre κs l X k t F = refl
+
+pub step_post : (κs : Lfts 7) (l : Lent) (X : ℕ) (k : Held) (t F : ℕ) (r : Stepped) (e : StepLeft) → StepPost κs l X k t F r e ≡ StepEnsures κs l X k t F r e
+step_post κs l X k t F r e = refl
+
+pub transport_pre : (κs : Lfts 7) (l : Lent) (X : ℕ) (k : Held) → TransportPre κs l X k ≡ TransportAsks κs l X k
+transport_pre κs l X k = refl
+
+pub transport_post : (κs : Lfts 7) (l : Lent) (X : ℕ) (k : Held) (r : Answer) (e : TransportLeft) → TransportPost κs l X k r e ≡ TransportEnsures κs l X k r e
+transport_post κs l X k r e = refl
+
+pub setting_pre : (κs : Lfts 7) (l : Lent) (X : ℕ) (k : Held) (new : List Boundary) → SettingPre κs l X k new ≡ SettingAsks κs l X k new
+setting_pre κs l X k new = refl
+
+pub setting_post : (κs : Lfts 7) (l : Lent) (X : ℕ) (k : Held) (new : List Boundary) (r : Answer) (e : TransportLeft) → SettingPost κs l X k new r e ≡ SettingEnsures κs l X k new r e
+setting_post κs l X k new r e = refl
+
+pub greatest_pre : (κs : Lfts 7) (l : Lent) (X : ℕ) (k : Held) → GreatestPre κs l X k ≡ GreatestAsks κs l X k
+greatest_pre κs l X k = refl
+
+pub greatest_post : (κs : Lfts 7) (l : Lent) (X : ℕ) (k : Held) (r : Greatest) → GreatestPost κs l X k r ≡ GreatestEnsures κs l X k r
+greatest_post κs l X k r = refl
+
+pub write_pre : (κs : Lfts 8) (l : Lent) (X : ℕ) (k : Held) (out : MutBor (List ℕ)) → WritePre κs l X k out ≡ WriteAsks κs l X k out
+write_pre κs l X k out = refl
+
+pub write_post : (κs : Lfts 8) (l : Lent) (X : ℕ) (k : Held) (out : MutBor (List ℕ)) (r : Answer) (written : List ℕ) → WritePost κs l X k out r written ≡ WriteEnsures κs l X k out r written
+write_post κs l X k out r written = refl
 
 pub open_asks_nothing : (κs : Lfts 8) (sheet : Bor (List ℕ)) (l : Lent) → OpenAsks κs sheet l
 open_asks_nothing κs sheet l = tt

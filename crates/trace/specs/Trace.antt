@@ -2,7 +2,7 @@
 -- such chain from an accepted opening on, `Holds` says what holds.
 use Rattle.std.specs.Prelude.{◌≡◌, List, [], ◌∷◌, ℕ, ◌<◌, length, get_or}
 use contract.Lifetimes.{Lfts}
-use Rattle.std.specs.Borrow.{Bor}
+use Rattle.std.specs.Borrow.{Bor, MutBor}
 use Rattle.numbers.specs.Index.{tabulate}
 use Rattle.outlet.specs.Outlets.{no_outlet, loaded}
 use Rattle.outlet.specs.declared.Outlet.{Outlet}
@@ -72,7 +72,7 @@ pub record WriteLink (s : Reach) (f : Free) (room : ℕ) (s' : Reach) : Type 0 w
   pub κs : Lfts 8
   pub l : Lent
   pub lends : with_wants f.wants s ≡ given l s.cell_length s.held
-  pub out : Bor (List ℕ)
+  pub out : MutBor (List ℕ)
   pub long : room ≡ length out.now
   pub r : Answer
   pub written : List ℕ
@@ -135,7 +135,7 @@ pub record EveryCall : Type 0 where
       → BoundariesLink s f new (reach_of l.bed.now l.depth.now l.discharge.now e.mass e.base e.carried s.cell_length (given_held r.boundaries r.ledger e.outlets))
   pub greatest_step_lem : (s : Reach) (f : Free) (κs : Lfts 7) (l : Lent) (r : Greatest) → with_wants f.wants s ≡ given l s.cell_length s.held
       → GreatestEnsures κs l s.cell_length s.held r → GreatestLink s f (given l s.cell_length (given_held r.boundaries r.ledger l.outlets.now))
-  pub write : (s : Reach) (f : Free) (κs : Lfts 8) (l : Lent) (out : Bor (List ℕ)) (r : Answer) (written : List ℕ) → with_wants f.wants s ≡ given l s.cell_length s.held
+  pub write : (s : Reach) (f : Free) (κs : Lfts 8) (l : Lent) (out : MutBor (List ℕ)) (r : Answer) (written : List ℕ) → with_wants f.wants s ≡ given l s.cell_length s.held
       → WriteEnsures κs l s.cell_length s.held out r written
       → WriteLink s f (length out.now) (given l s.cell_length (given_held r.boundaries r.ledger l.outlets.now))
   pub opening : (s : Reach) (κs : Lfts 8) (sheet : Bor (List ℕ)) (l : Lent) (r : Opened) (e : OpenLeft) → lending (loaded l.outlets.now) s ≡ given l s.cell_length s.held
