@@ -6,7 +6,7 @@ use Prim.Native.Nat.{ℕ, ◌<◌, ◌≤◌}
 use native.Mathlib.Omega.{arith}
 use borrow.Author.Tests.{ltb-true, ltb-false}
 use contract.Lifetimes.{Lfts}
-use denote.Ref.{Bor}
+use denote.Ref.{Bor, MutBor, as_bor}
 use lib.Dec.{eqb, ltb}
 use lib.ListN.{length, get_or, replicate, length-replicate, get_or-eq_default}
 use lib.Seq.{ext_get_or}
@@ -167,8 +167,8 @@ listed s k ws =
 -- ---- every list has its chain
 
 -- a loan of a value: where it points is nothing to a contract
-abbrev loan : {A : Type 0} → A → Bor A
-loan x = record { ref_ptr = (0, 0); now = x }
+abbrev loan : {A : Type 0} → A → MutBor A
+loan x = record { ref_ptr = (0, 0); ghost_name = 0; now = x }
 
 abbrev lent_with : Reach → List Outlet → Lent
 lent_with s os = record { bed = loan s.bed; depth = loan s.depth; discharge = loan s.discharge; mass = loan s.mass; base = loan s.base; carried = loan s.carried; outlets = loan os }
@@ -192,7 +192,7 @@ made_opening s f sheet outlets =
     o.reach.bed o.reach.depth o.reach.discharge o.reach.mass o.reach.base o.reach.carried a (opened_of a) refl came refl refl refl in
     record {
       κs = eight;
-      bytes = loan sheet;
+      bytes = as_bor (loan sheet);
       fed = refl;
       l = lent_with s outlets;
       lends = refl;
