@@ -14,6 +14,7 @@ use Rattle.outlet.proofs.LentLaws.{same_list}
 use Rattle.reach.specs.Reach.{Reach}
 use Rattle.reach.specs.Grounds.{Ground, ground, first_refusal, number_of, record_grounds}
 use Rattle.reach.specs.Outcome.{Outcome, outcome}
+use Rattle.reach.proofs.GroundsLaws.{go_on, stop_at}
 use Rattle.reach.specs.declared.boundary.Boundary.{Boundary}
 use Rattle.reach.specs.declared.held.Held.{Held}
 use Rattle.reach.specs.declared.ledger.Ledger.{Ledger}
@@ -50,7 +51,10 @@ asks_nothing = record {
 pub first : (gs : List Ground) → First (number_of (first_refusal gs)) gs
 unfolding First first_refusal
 first [] = refl
-first (g ∷ gs) = (λ e. rw e (first gs), λ e. rw e refl)
+first (g ∷ gs) = (
+  λ e. subst (λ (k : Check). First (number_of k) gs) (sym (go_on g gs e refl)) (first gs),
+  λ e. ap number_of (stop_at g gs e),
+)
 
 pub number : (k : Check) (s t : Reach) → (outcome k s t).refusal ≡ number_of k
 number Pass s t = refl
