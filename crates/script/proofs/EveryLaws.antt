@@ -13,7 +13,7 @@ use Rattle.outlet.specs.declared.Outlet.{Outlet}
 use Rattle.reach.specs.declared.boundary.Boundary.{Boundary}
 use Rattle.encoding.specs.FromBytes.{twos}
 use Rattle.encoding.proofs.FromBytesLaws.{twos_low, twos_high}
-use Rattle.tally.specs.Call.{Call, Free, Entry, step_call, transport_call, boundaries_call, greatest_call, write_call, open_call}
+use Rattle.tally.specs.Call.{Call, Entry, step_call, transport_call, boundaries_call, greatest_call, write_call, open_call}
 use Rattle.tally.specs.Holds.{Each}
 use Rattle.script.specs.Script.{boundary_from, part, wants_from, outlet_from, outlets_from, call_at, entry_at, entries_from, script}
 use Rattle.script.specs.Every.{Word, HalfWord, Byte, SignedWord, Stored, StoredOutlet, Given, EntryGiven, sheet_part, sheets_size, EveryList}
