@@ -26,10 +26,9 @@ use Rattle.sheet.specs.Opening.{sheet_record, lent_fit, opening}
 use Rattle.writing.specs.Writing.{none_carried, room_fits, write_refusal, none_drawn}
 use Rattle.tally.specs.Call.{wanting, final}
 use Rattle.tally.specs.Tally.{add_water, add_mass, add_step, add_draws, add_outlet_mass, add_step_outlets, no_draws, start, take_wants, count_step, count_transport, count_setting, if_accepted, count, run}
-use Rattle.worked_runs.proofs.totals_worked.Statement.{statement}
-use Rattle.worked_runs.proofs.totals_worked.Tie as tie
+use Rattle.worked_runs.proofs.totals_worked.Goals as goal
 
-returns : tie.Need-returns
+pub returns : goal.returns
 unfolding all_of all_below tabulate sum climb least_reaching share shares rest maxℤ eqℤ upper lower water_of water_flux second_moment momentum_of momentum_flux still_thrust reduced_depth left_depth right_depth net_water momentum_sum mirrored velocity wave_speed signal_speed speed_at meets_cfl greatest_step fastest_place cell_shares rightwards leftwards moved_cell parts outflow first_refusal lengths_fit cell_length_fits wall_fits open_fits fed_fits kind_fits boundary_fits boundaries_fit cell_fits cells_fit carried_fits carried_cells_fit shut_fits carried_fit totals_fit ledger_fits entering_left entering_right with_mass ledger_with transport_ledger after_transport holding set_boundaries transport side_speed cell_side boundary_side left_side right_side net_at momentum_at own_left own_right new_depth pushed nearest new_discharge boundary_speed left_speed right_speed place_speed greatest_time greatest_place greatest summed keeps_sums transported_first with_water with_boundary_water step_ledger after_step time_fits depths_fit strickler_fits slowed step number_at twos_in twos column_at sheet_size boundary_at boundaries_of edition_fits size_fits inside apart apart_from columns_clear spans_of sheet_record lent_fit opening none_carried room_fits write_refusal final add_water add_mass add_step start count_step count_transport count_setting if_accepted count run moved_outlet moved_outlets outlet_fits outlets_fit outlet_totals_fit all_totals_fit transport_outlets transport_held available draws draw_of undrawn_depth summed_drawn stepped_outlet step_outlets step_held from_cell each_outlet floors units_left has_unit handed dealt none_drawn cleared wanting add_draws add_outlet_mass add_step_outlets no_draws take_wants
 returns c =
     record {
@@ -39,6 +38,3 @@ returns c =
       depths = refl;
       masses = refl;
     }
-
-pub totals_worked_spec : {M : Type 1} → statement M
-totals_worked_spec = tie.close (tie.spec returns)

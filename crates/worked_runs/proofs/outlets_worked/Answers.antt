@@ -4,12 +4,8 @@ use Rattle.numbers.specs.Deal.{floors, units_left, has_unit, handed, dealt}
 use Rattle.numbers.specs.Index.{sum}
 use Rattle.numbers.specs.Shares.{share, shares, rest}
 use Rattle.reach.specs.Parts.{parts}
-use Rattle.worked_runs.proofs.outlets_worked.Statement.{statement}
-use Rattle.worked_runs.proofs.outlets_worked.Tie as tie
+use Rattle.worked_runs.proofs.outlets_worked.Goals as goal
 
-returns : tie.Need-returns
+pub returns : goal.returns
 unfolding floors units_left has_unit handed dealt sum share shares rest parts
 returns c = record { floors_10 = refl; dealt_10 = refl; dealt_6 = refl; dealt_all_13 = refl; parts_5 = refl; shares_7 = refl; none_stays = refl }
-
-pub outlets_worked_spec : {M : Type 1} → statement M
-outlets_worked_spec = tie.close (tie.spec returns)
