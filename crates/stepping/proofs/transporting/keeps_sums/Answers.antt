@@ -62,21 +62,21 @@ pub loop-i-init : goal.loop-i-init
 loop-i-init c = (omega arith, all_none _)
 
 pub sum_of-requires : goal.sum_of-requires
-sum_of-requires c = 
+sum_of-requires c =
     let p = c.requires.0 in
     let i = c.loop-i.i in
     let l : i ≤ c.args.n = omega (arith, (index (goal.at.sum_of-requires c).In-loop-i).0) in
     rw (to_z-of_z {w = w64} (sfits_of c.sum_of-arg-1.given), to_z-of_z {w = w64} (sfits_of c.sum_of-arg-in-loop-i-1.given)) (p.carried i l, p.crossed i l)
 
 pub sum_of-requires-in-loop-i : goal.sum_of-requires-in-loop-i
-sum_of-requires-in-loop-i c = 
+sum_of-requires-in-loop-i c =
     let p = c.requires.0 in
     let i = c.loop-i.i + 1 in
     let l : i ≤ c.args.n = omega (arith, (index (goal.at.sum_of-requires-in-loop-i c).In-loop-i).0) in
     rw (to_z-of_z {w = w64} (sfits_of c.sum_of-arg-in-loop-i-2-1.given), to_z-of_z {w = w64} (sfits_of c.sum_of-arg-in-loop-i-3-1.given)) (p.carried i l, p.crossed i l)
 
 pub covers-requires : goal.covers-requires
-covers-requires c = 
+covers-requires c =
     let i = c.loop-i.i in
     let l = (index (goal.at.covers-requires c).In-loop-i).0 in
     rw (to_z-of_z {w = w64} (sfits_of c.sum_of.type_inv), to_z-of_z {w = w64} (sfits_of c.sum_of-in-loop-i.type_inv), left-sum (goal.at.covers-requires c).After-sum_of, right-sum (goal.at.covers-requires c).After-sum_of-in-loop-i)
@@ -84,19 +84,19 @@ covers-requires c =
 
 pub returns-then-not-covers : goal.returns-then-not-covers
 unfolding sums_kept
-returns-then-not-covers c = 
+returns-then-not-covers c =
     sym (all_fails _ _ c.loop-i.i (index (goal.at.returns-then-not-covers c).In-loop-i).0 (sym (cell-is (goal.at.returns-then-not-covers c).After-covers) ∙ c.if-not-covers.true))
 
 pub loop-i-smaller : goal.loop-i-smaller
 loop-i-smaller c = let l = index (goal.at.loop-i-smaller c).In-loop-i in omega (arith, l.0)
 
 pub loop-i-preserved : goal.loop-i-preserved
-loop-i-preserved c = 
+loop-i-preserved c =
     let l = c.loop-i in
     (omega (arith, (index (goal.at.loop-i-preserved c).In-loop-i).0), all_more _ l.i l.invariant.1 (sym (cell-is (goal.at.loop-i-preserved c).After-covers) ∙ c.if-not-covers.false))
 
 pub returns : goal.returns
 unfolding sums_kept
-returns c = 
+returns c =
     let e : c.loop-i.i ≡ c.args.n = omega arith in
     sym (rw e at c.loop-i.invariant.1)
