@@ -66,7 +66,7 @@ pub fn resume(
     out: &mut [u8],
     answers: &mut [u64],
 ) -> Replayed
-    ensures answers_after { world (reach_of bed.new depth.new discharge.new mass.new base.new carried.new result.cell_length result.held) out.new answers.new ≡ played_from (world (came bed depth discharge mass base carried x held) out.old answers.old) 0 (script words.now sheets.now (length out.old)) }
+    ensures answers_after { world (reach_of bed.new depth.new discharge.new mass.new base.new carried.new result.cell_length result.held) out.new answers.new ≡ played_from (world (came bed.old depth.old discharge.old mass.old base.old carried.old x held) out.old answers.old) 0 (script words.now sheets.now (length out.old)) }
     ensures refusal_value { result.refusal ≡ 0 }
 {
     let n = words.len() / 206;
@@ -117,7 +117,7 @@ pub fn replay(
     out: &mut [u8],
     answers: &mut [u64],
 ) -> Replayed
-    ensures { ReplayCameTo sheet.now words.now sheets.now (came bed depth discharge mass base carried 0 (none_held outlets)) out.old answers.old result bed.new depth.new discharge.new mass.new base.new carried.new out.new answers.new }
+    ensures { ReplayCameTo sheet.now words.now sheets.now (came bed.old depth.old discharge.old mass.old base.old carried.old 0 (none_held outlets)) out.old answers.old result bed.new depth.new discharge.new mass.new base.new carried.new out.new answers.new }
 {
     let o = open_sheet(sheet, bed, depth, discharge, mass, base, carried, outlets);
     let held = o.held;

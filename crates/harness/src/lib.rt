@@ -111,7 +111,7 @@ pub extern "C" fn harness_replay(
     out: &mut [u8],
     answers: &mut [u64],
 ) -> Replayed
-    ensures { ReplayCameTo sheet.now words.now sheets.now (came bed depth discharge mass base carried 0 (none_held outlets)) out.old answers.old result bed.new depth.new discharge.new mass.new base.new carried.new out.new answers.new }
+    ensures { ReplayCameTo sheet.now words.now sheets.now (came bed.old depth.old discharge.old mass.old base.old carried.old 0 (none_held outlets)) out.old answers.old result bed.new depth.new discharge.new mass.new base.new carried.new out.new answers.new }
 {
     replay(
         sheet, words, sheets, bed, depth, discharge, mass, base, carried, outlets, out, answers,

@@ -34,7 +34,7 @@ pub extern "C" fn jemmyfern_open(
     carried: &mut [i64],
     outlets: &mut [Outlet],
 ) -> Opened
-    ensures { OpenCameTo (opening s.now (came bed depth discharge mass base carried 0 (none_held (loaded outlets.old)))) (open_with result outlets.new) bed.new depth.new discharge.new mass.new base.new carried.new × RestKept outlets.old outlets.new }
+    ensures { OpenCameTo (opening s.now (came bed.old depth.old discharge.old mass.old base.old carried.old 0 (none_held (loaded outlets.old)))) (open_with result outlets.new) bed.new depth.new discharge.new mass.new base.new carried.new × RestKept outlets.old outlets.new }
 {
     let list = load(outlets);
     let a = open_sheet(s, bed, depth, discharge, mass, base, carried, list);
@@ -58,7 +58,7 @@ pub extern "C" fn jemmyfern_step(
     t: u64,
     f: u64,
 ) -> Stepped
-    ensures { StepCameTo (came bed depth discharge mass base carried x (given_held boundaries.boundaries ledger outlets.old)) t f (step_with result outlets.new) depth.new discharge.new mass.new base.new carried.new × RestKept outlets.old outlets.new }
+    ensures { StepCameTo (came bed.now depth.old discharge.old mass.old base.old carried.old x (given_held boundaries.boundaries ledger outlets.old)) t f (step_with result outlets.new) depth.new discharge.new mass.new base.new carried.new × RestKept outlets.old outlets.new }
 {
     let list = load(outlets);
     let held = given_held(boundaries, ledger, list);
@@ -81,7 +81,7 @@ pub extern "C" fn jemmyfern_transport(
     boundaries: Boundaries,
     ledger: Ledger,
 ) -> Answer
-    ensures { CameTo (transportOf (came bed depth discharge mass base carried x (given_held boundaries.boundaries ledger outlets.old))) (transport_with result outlets.new) mass.new base.new carried.new × RestKept outlets.old outlets.new }
+    ensures { CameTo (transportOf (came bed.now depth.now discharge.now mass.old base.old carried.old x (given_held boundaries.boundaries ledger outlets.old))) (transport_with result outlets.new) mass.new base.new carried.new × RestKept outlets.old outlets.new }
 {
     let list = load(outlets);
     let held = given_held(boundaries, ledger, list);
@@ -105,7 +105,7 @@ pub extern "C" fn jemmyfern_set_boundaries(
     ledger: Ledger,
     new: Boundaries,
 ) -> Answer
-    ensures { CameTo (set_boundaries (came bed depth discharge mass base carried x (given_held boundaries.boundaries ledger outlets.old)) new.boundaries) (transport_with result outlets.new) mass.new base.new carried.new × RestKept outlets.old outlets.new }
+    ensures { CameTo (set_boundaries (came bed.now depth.now discharge.now mass.old base.old carried.old x (given_held boundaries.boundaries ledger outlets.old)) new.boundaries) (transport_with result outlets.new) mass.new base.new carried.new × RestKept outlets.old outlets.new }
 {
     let list = load(outlets);
     let held = given_held(boundaries, ledger, list);
@@ -129,7 +129,7 @@ pub extern "C" fn jemmyfern_greatest_step(
     boundaries: Boundaries,
     ledger: Ledger,
 ) -> Greatest
-    ensures { greatest_with result outlets.now ≡ greatest (came bed depth discharge mass base carried x (given_held boundaries.boundaries ledger outlets.now)) }
+    ensures { greatest_with result outlets.now ≡ greatest (came bed.now depth.now discharge.now mass.now base.now carried.now x (given_held boundaries.boundaries ledger outlets.now)) }
 {
     let list = load(outlets);
     let held = given_held(boundaries, ledger, list);
@@ -151,7 +151,7 @@ pub extern "C" fn jemmyfern_write(
     ledger: Ledger,
     out: &mut [u8],
 ) -> Answer
-    ensures { WriteCameTo (came bed depth discharge mass base carried x (given_held boundaries.boundaries ledger outlets.now)) out.old (write_with result outlets.now) out.new }
+    ensures { WriteCameTo (came bed.now depth.now discharge.now mass.now base.now carried.now x (given_held boundaries.boundaries ledger outlets.now)) out.old (write_with result outlets.now) out.new }
 {
     let list = load(outlets);
     let held = given_held(boundaries, ledger, list);

@@ -15,7 +15,7 @@ use lib.ListN.{length, get_or}
 use Rattle.numbers.specs.Index.{sum, sum_below, tabulate}
 use Rattle.numbers.specs.Shares.{share, shares, rest}
 use Rattle.numbers.specs.Signed.{positive}
-use Rattle.numbers.proofs.IndexLaws.{telescope, sum_add, sum_tabulate, sum_by_index, sum_same, sum_part, tabulate_same, length_tabulate}
+use Rattle.numbers.proofs.IndexLaws.{telescope, sum_add, sum_tabulate, sum_by_index, sum_same, sum_part, length_tabulate}
 use Rattle.numbers.proofs.SharesLaws.{floor_none, share_nothing, shares_at, length_shares, shares_rest, shares_lo, shares_hi, rest_lo, rest_hi, rest_of_all}
 use Rattle.outlet.specs.Outlets.{outlet_at, from_cell}
 use Rattle.outlet.specs.declared.Outlets.{Outlets}

@@ -34,7 +34,7 @@ fn run_steps(
     count: u64,
     t: u64,
 ) -> Ran
-    ensures { RanTo (steps count t (came bed depth discharge mass base carried x held)) result bed.now depth.new discharge.new mass.new base.new carried.new x }
+    ensures { RanTo (steps count t (came bed.now depth.old discharge.old mass.old base.old carried.old x held)) result bed.now depth.new discharge.new mass.new base.new carried.new x }
 {
     let mut last = held;
     let mut i = 0;
@@ -84,7 +84,7 @@ pub fn play(
     count: u64,
     t: u64,
 ) -> Ran
-    ensures { PlayedTo (played s.now (came bed depth discharge mass base carried 0 (none_held no_outlets)) count t) result bed.new depth.new discharge.new mass.new base.new carried.new }
+    ensures { PlayedTo (played s.now (came bed.old depth.old discharge.old mass.old base.old carried.old 0 (none_held no_outlets)) count t) result bed.new depth.new discharge.new mass.new base.new carried.new }
 {
     let none = no_outlets();
     let o = open_sheet(s, bed, depth, discharge, mass, base, carried, none);

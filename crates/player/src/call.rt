@@ -42,7 +42,7 @@ fn play_moving(
 ) -> Played
     requires at_in_bounds { at + 206 ≤ length words.now }
     requires at_bound { get_or words.now at 0 < 3 }
-    ensures { (sheets : List ℕ) (room : ℕ) (out : List ℕ) → Plays (came bed depth discharge mass base carried x held) (free_at words.now at) (call_at words.now sheets room at) out result bed.now depth.new discharge.new mass.new base.new carried.new out }
+    ensures { (sheets : List ℕ) (room : ℕ) (out : List ℕ) → Plays (came bed.now depth.old discharge.old mass.old base.old carried.old x held) (free_at words.now at) (call_at words.now sheets room at) out result bed.now depth.new discharge.new mass.new base.new carried.new out }
 {
     let wanted = with_wants(words, at, held);
     let word = words[at];
@@ -88,7 +88,7 @@ fn play_reading(
 ) -> Played
     requires at_in_bounds { at + 206 ≤ length words.now }
     requires bound { (3 ≤ get_or words.now at 0) × (get_or words.now at 0 < 5) }
-    ensures { (sheets : List ℕ) → Plays (came bed depth discharge mass base carried x held) (free_at words.now at) (call_at words.now sheets (length out.old) at) out.old result bed.now depth.now discharge.now mass.now base.now carried.now out.new }
+    ensures { (sheets : List ℕ) → Plays (came bed.now depth.now discharge.now mass.now base.now carried.now x held) (free_at words.now at) (call_at words.now sheets (length out.old) at) out.old result bed.now depth.now discharge.now mass.now base.now carried.now out.new }
 {
     let wanted = with_wants(words, at, held);
     let word = words[at];
@@ -149,7 +149,7 @@ fn play_opening(
 ) -> Played
     requires at_in_bounds { at + 206 ≤ length words.now }
     requires bound { 5 ≤ get_or words.now at 0 }
-    ensures { (room : ℕ) (out : List ℕ) → Plays (came bed depth discharge mass base carried x held) (free_at words.now at) (call_at words.now sheets.now room at) out result bed.new depth.new discharge.new mass.new base.new carried.new out }
+    ensures { (room : ℕ) (out : List ℕ) → Plays (came bed.old depth.old discharge.old mass.old base.old carried.old x held) (free_at words.now at) (call_at words.now sheets.now room at) out result bed.new depth.new discharge.new mass.new base.new carried.new out }
 {
     let from = words[at + 1];
     let to = words[at + 2];
@@ -185,7 +185,7 @@ pub fn play_call(
     out: &mut [u8],
 ) -> Played
     requires { at + 206 ≤ length words.now }
-    ensures { Plays (came bed depth discharge mass base carried x held) (free_at words.now at) (call_at words.now sheets.now (length out.old) at) out.old result bed.new depth.new discharge.new mass.new base.new carried.new out.new }
+    ensures { Plays (came bed.old depth.old discharge.old mass.old base.old carried.old x held) (free_at words.now at) (call_at words.now sheets.now (length out.old) at) out.old result bed.new depth.new discharge.new mass.new base.new carried.new out.new }
 {
     let word = words[at];
     if word < 3 {

@@ -27,9 +27,9 @@ pub record Reach : Type 0 where
 abbrev pub reach_of : List ℤ → List ℕ → List ℤ → List ℕ → List ℕ → List ℤ → ℕ → Held → Reach
 reach_of z h q m b c X k = record { bed = z; depth = h; discharge = q; mass = m; base = b; carried = c; cell_length = X; held = k }
 
--- the record that a call is given, by the names of its parameters: the columns at its entry, X, and what it holds
-abbrev pub came : Both (Bor (List ℤ)) (Bor (List ℤ)) → Both (Bor (List ℕ)) (Bor (List ℕ)) → Both (Bor (List ℤ)) (Bor (List ℤ)) → Both (Bor (List ℕ)) (Bor (List ℕ)) → Both (Bor (List ℕ)) (Bor (List ℕ)) → Both (Bor (List ℤ)) (Bor (List ℤ)) → ℕ → Held → Reach
-came z h q m b c X k = reach_of z.entry.now h.entry.now q.entry.now m.entry.now b.entry.now c.entry.now X k
+-- the record that a call is given: what stands in the columns at its entry, X, and what it holds
+abbrev pub came : List ℤ → List ℕ → List ℤ → List ℕ → List ℕ → List ℤ → ℕ → Held → Reach
+came z h q m b c X k = reach_of z h q m b c X k
 
 -- what is held, made of a pair of boundaries, a ledger and the list of outlets; with another pair; with another ledger; with another ledger and other outlets. A field that is added stands here, and
 -- not where one of these is named

@@ -39,7 +39,7 @@ pub fn check_record(
     held: Held,
     given: [Boundary; 2],
 ) -> Check
-    ensures { result ≡ first_refusal (record_grounds (came bed depth discharge mass base carried x held) given) }
+    ensures { result ≡ first_refusal (record_grounds (came bed.now depth.now discharge.now mass.now base.now carried.now x held) given) }
 {
     let Check::Pass = check_lengths(bed, depth, discharge, mass, base, carried) else {
         return Check::Refused(4);

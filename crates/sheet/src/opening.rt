@@ -253,7 +253,7 @@ pub fn open_sheet(
     carried: &mut [i64],
     outlets: Outlets,
 ) -> OpenAnswer
-    ensures { OpenCameTo (opening s.now (came bed depth discharge mass base carried 0 (none_held outlets))) result bed.new depth.new discharge.new mass.new base.new carried.new }
+    ensures { OpenCameTo (opening s.now (came bed.old depth.old discharge.old mass.old base.old carried.old 0 (none_held outlets))) result bed.new depth.new discharge.new mass.new base.new carried.new }
 {
     let checked = check_opening(
         s,

@@ -182,7 +182,7 @@ fn complete(
     requires boundaries_value { first_refusal (record_grounds (reach_of bed.now depth.old discharge.old mass.old base.old carried.old x held) held.boundaries) ≡ Pass }
     requires step_passes { StepPasses (reach_of bed.now depth.old discharge.old mass.old base.old carried.old x held) t f }
     requires step_found { StepFound (reach_of bed.now depth.old discharge.old mass.old base.old carried.old x held) t f net.now new_depth.now new_discharge.now got }
-    ensures { StepCameTo (came bed depth discharge mass base carried x held) t f result depth.new discharge.new mass.new base.new carried.new }
+    ensures { StepCameTo (came bed.now depth.old discharge.old mass.old base.old carried.old x held) t f result depth.new discharge.new mass.new base.new carried.new }
 {
     let n = bed.len();
     let transports = !keeps_sums(n, carried, net, new_depth);
@@ -234,7 +234,7 @@ fn advance(
 ) -> StepAnswer
     requires boundaries_value { first_refusal (record_grounds (reach_of bed.now depth.old discharge.old mass.old base.old carried.old x held) held.boundaries) ≡ Pass }
     requires t_value { (time_fits t ≡ true) × (strickler_fits f ≡ true) }
-    ensures { StepCameTo (came bed depth discharge mass base carried x held) t f result depth.new discharge.new mass.new base.new carried.new }
+    ensures { StepCameTo (came bed.now depth.old discharge.old mass.old base.old carried.old x held) t f result depth.new discharge.new mass.new base.new carried.new }
 {
     let boundaries = held.boundaries;
     let n = bed.len();
@@ -293,7 +293,7 @@ pub fn step(
     t: u64,
     f: u64,
 ) -> StepAnswer
-    ensures { StepCameTo (came bed depth discharge mass base carried x held) t f result depth.new discharge.new mass.new base.new carried.new }
+    ensures { StepCameTo (came bed.now depth.old discharge.old mass.old base.old carried.old x held) t f result depth.new discharge.new mass.new base.new carried.new }
 {
     let boundaries = held.boundaries;
     let checked = check_record(

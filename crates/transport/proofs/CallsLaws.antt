@@ -26,7 +26,7 @@ use Rattle.mass.specs.Transport.{MassColumns, mass_columns, cell_shares, outlet_
 use Rattle.mass.specs.Ranges.{Ready, OutletsReady, Gained, gains, mass_most, moved_mass}
 use Rattle.mass.proofs.GainsLaws.{gained, taken_all}
 use Rattle.mass.proofs.TransportLaws.{drawn_mass, drawn_mass_sum, ready_undrawn, rightwards_undrawn, leftwards_undrawn, water_rightwards, water_leftwards, water_stayed, conserved, moved_all, moved_lo, moved_hi, leftwards_small, rightwards_small, leftwards_end}
-use Rattle.reach.specs.Limits.{wall, cells_most}
+use Rattle.reach.specs.Limits.{wall}
 use Rattle.reach.specs.Reach.{Reach, reach_of, cells, depth_at, base_at, mass_at, carried_at, left_boundary, right_boundary, with_boundaries}
 use Rattle.reach.specs.Grounds.{first_refusal, record_grounds, boundaries_fit, outlets_fit, outlet_totals_fit, all_totals_fit, pass_or}
 use Rattle.reach.specs.Outcome.{Outcome, outcome}
@@ -38,7 +38,7 @@ use Rattle.reach.specs.declared.refusal.Check.{Check}
 use Rattle.reach.specs.declared.refusal.Check.TheVariants.{Pass, Refused}
 use Rattle.reach.proofs.GroundsLaws.{further, no_further, last_one, numbered, refused_number}
 use Rattle.reach.proofs.OutletLaws.{each_fits, each_from, each_sum}
-use Rattle.reach.proofs.PartsLaws.{outflow_is, sum_single}
+use Rattle.reach.proofs.PartsLaws.{outflow_is}
 use Rattle.reach.proofs.Sound.{Sound, CarriedSound, none_carried_lem, outlets_few, outlet_sound, sound, given_fits, stands, boundary_sound}
 use Rattle.transport.specs.Calls.{entering_left, entering_right, mass_columns_of, with_mass, ledger_with, transport_ledger, transport_outlets, transport_held, after_transport, transport_grounds, transport, holding, set_boundaries, CameTo}
 use Rattle.transport.specs.Ranges.{mass_columns_with, BoundaryMassOf, Small}

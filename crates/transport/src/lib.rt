@@ -145,7 +145,7 @@ fn transport_under(
     given: [Boundary; 2],
 ) -> TransportAnswer
     requires { first_refusal (record_grounds (reach_of bed.now depth.now discharge.now mass.old base.old carried.old x held) given) ≡ Pass }
-    ensures { CameTo (set_boundaries (came bed depth discharge mass base carried x held) given) result mass.new base.new carried.new }
+    ensures { CameTo (set_boundaries (came bed.now depth.now discharge.now mass.old base.old carried.old x held) given) result mass.new base.new carried.new }
 {
     let old = held.boundaries;
     let ledger = held.ledger;
@@ -194,7 +194,7 @@ pub fn set_boundaries(
     held: Held,
     given: [Boundary; 2],
 ) -> TransportAnswer
-    ensures { CameTo (set_boundaries (came bed depth discharge mass base carried x held) given) result mass.new base.new carried.new }
+    ensures { CameTo (set_boundaries (came bed.now depth.now discharge.now mass.old base.old carried.old x held) given) result mass.new base.new carried.new }
 {
     let checked = check_record(bed, depth, discharge, mass, base, carried, x, held, given);
     let Check::Pass = checked else {
@@ -214,7 +214,7 @@ pub fn transport(
     x: u64,
     held: Held,
 ) -> TransportAnswer
-    ensures { CameTo (transportOf (came bed depth discharge mass base carried x held)) result mass.new base.new carried.new }
+    ensures { CameTo (transportOf (came bed.now depth.now discharge.now mass.old base.old carried.old x held)) result mass.new base.new carried.new }
 {
     let given = held.boundaries;
     set_boundaries(bed, depth, discharge, mass, base, carried, x, held, given)

@@ -81,7 +81,7 @@ fn check_write(
     held: Held,
     room: usize,
 ) -> Check
-    ensures { result ≡ write_refusal (came bed depth discharge mass base carried x held) room }
+    ensures { result ≡ write_refusal (came bed.now depth.now discharge.now mass.now base.now carried.now x held) room }
 {
     let boundaries = held.boundaries;
     let checked = check_record(
@@ -149,7 +149,7 @@ pub fn write_sheet(
     held: Held,
     out: &mut [u8],
 ) -> WriteAnswer
-    ensures { WriteCameTo (came bed depth discharge mass base carried x held) out.old result out.new }
+    ensures { WriteCameTo (came bed.now depth.now discharge.now mass.now base.now carried.now x held) out.old result out.new }
 {
     let checked = check_write(
         bed,

@@ -13,7 +13,6 @@ use Rattle.reach.specs.Ranges.{undrawn}
 use Rattle.reach.proofs.PartsLaws.{outflow_is}
 use Rattle.mass.specs.Transport.{MassColumns, mass_columns, cell_shares}
 use Rattle.mass.proofs.TransportLaws.{water_rightwards, water_leftwards, sum_empty}
-use borrow.Author.Rules.{rules}
 use Rattle.mass.proofs.shares_at.Goals as goal
 use Rattle.mass.proofs.shares_at.Goals.{After-left_part, After-shares_of, Start}
 
@@ -35,7 +34,7 @@ shares-are c =
 
 pub shares_of-requires : goal.shares_of-requires
 shares_of-requires c =
-    let g = c.requires.0.giving c.requires.1 in
+    let g = c.requires.ready_at.giving c.requires.i_in_bounds in
     let carried : ℕ → ℤ = λ i. get_or (col (goal.at.shares_of-requires c).Start).carried i (pos 0) in
     let e = outflow_is (carried c.args.i) (carried (c.args.i + 1)) [] in
     record { deep = g.deep; rich = g.rich; covered = omega (arith, right_is (goal.at.shares_of-requires c).After-left_part, left_is (goal.at.shares_of-requires c).After-left_part, e, sum_empty, g.covered) }

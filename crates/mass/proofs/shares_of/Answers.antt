@@ -1,12 +1,11 @@
 -- `mass::shares_of` meets its contract: each share is the floor up to its end less the floor before, and the last floor is all that left. Assumes nothing.
-use mathlib.Core.Path.{◌≡◌, refl, ap, ◌∙◌}
-use mathlib.Core.List.{List, [], ◌∷◌}
-use Prim.Native.Nat.{ℕ, ◌+◌, ◌-◌, ◌*◌, ◌/◌, ◌≤◌}
+use mathlib.Core.Path.{◌≡◌, ap}
+use mathlib.Core.List.{[], ◌∷◌}
+use Prim.Native.Nat.{ℕ, ◌+◌, ◌-◌, ◌*◌, ◌/◌}
 use native.Mathlib.Nat.{zero-add}
 use native.Mathlib.Omega.{arith}
 use Rattle.numbers.specs.Shares.{share, shares, rest}
-use Rattle.numbers.proofs.SharesLaws.{floor_none, floor_mono, floor_all}
-use borrow.Author.Rules.{rules}
+use Rattle.numbers.proofs.SharesLaws.{floor_none, floor_all}
 use Rattle.mass.proofs.shares_of.Goals as goal
 
 by_floors : (m b R L x y : ℕ) → x ≡ m * (0 + R) / b → y ≡ m * (R + L) / b → x ∷ (y - x) ∷ [] ≡ shares m b 0 (R ∷ L ∷ [])

@@ -2,25 +2,24 @@
 use mathlib.Core.Path.{◌≡◌, refl, sym, ap, ap₂, ◌∙◌}
 use mathlib.Core.Bool.{cond}
 use mathlib.Core.List.{List}
-use Prim.Native.Nat.{ℕ, ◌+◌, ◌-◌, ◌≤◌, ◌<◌}
+use Prim.Native.Nat.{ℕ, ◌+◌, ◌≤◌, ◌<◌}
 use native.Mathlib.Omega.{arith}
 use lib.Dec.{eqb, ltb}
 use lib.IntN.{ℤ, pos, neg_ℤ}
-use lib.ListN.{length, get_or, replicate, length-map}
-use borrow.Author.Rules.{rules}
+use lib.ListN.{length, get_or, replicate}
 use borrow.Author.Tests.{eq-eqb}
-use Rattle.numbers.specs.Index.{sum, sum_below, tabulate}
+use Rattle.numbers.specs.Index.{sum_below, tabulate}
 use Rattle.numbers.specs.Shares.{share}
 use Rattle.numbers.specs.Signed.{positive}
 use Rattle.numbers.proofs.IndexLaws.{Written, written_none, written_more, written_below, get_or_tabulate, zeros, sum_same}
 use Rattle.outlet.specs.Outlets.{no_outlet, outlet_at, each_outlet}
 use Rattle.outlet.specs.declared.Outlet.{Outlet}
 use Rattle.outlet.specs.declared.Outlets.{Outlets}
-use Rattle.drawing.proofs.DrawingLaws.{as_long, there, added, added_none, added_more}
+use Rattle.drawing.proofs.DrawingLaws.{there, added, added_none, added_more}
 use Rattle.reach.specs.Parts.{drawn_from}
 use Rattle.reach.proofs.PartsLaws.{outflow_is}
 use Rattle.mass.specs.Transport.{MassColumns, mass_columns, outlet_share, moved_outlet, moved_outlets}
-use Rattle.mass.specs.Ranges.{Giving, OutletsReady, mass_most}
+use Rattle.mass.specs.Ranges.{Giving, OutletsReady}
 use Rattle.mass.proofs.TransportLaws.{outlet_share_at, drawn_before, outlet_share_small}
 use Rattle.mass.proofs.outlets.move_outlets.Goals as goal
 use Rattle.mass.proofs.outlets.move_outlets.Goals.{After-share_at-share, In-loop-k, Start}
@@ -75,7 +74,7 @@ ready c = c.requires
 
 -- the list is an array of 32
 list-long : (s : Start) → length s.args.outlets.list ≡ 32
-list-long s = sym (length-map s.args.outlets.list _) ∙ s.well_formed.1.1.1.0.1.1.1.0.1.0.1
+list-long s = s.well_formed.1.1.1.0.1.1.1.0.1.0.1
 
 -- the outlet at hand has not been written yet
 here : (c : In-loop-k) → get_or c.loop-k.list c.loop-k.k no_outlet ≡ outlet_at c.args.outlets c.loop-k.k
@@ -118,6 +117,17 @@ all_moved s k list w all =
 
 pub loop-k-init : goal.loop-k-init
 loop-k-init c = (omega arith, written_none _ _ _, added_none _ _ _)
+
+pub share_at-share-requires-clause-i_in_bounds : goal.share_at-share-requires-clause-i_in_bounds
+share_at-share-requires-clause-i_in_bounds c =
+    let r = c.requires.each 0 in
+    let k = (goal.at.share_at-share-requires-clause-i_in_bounds c).In-loop-k in
+    rw (here k) ((inside k).0, (r.bases, r.interfaces))
+
+pub share_at-share-requires-clause-giving : goal.share_at-share-requires-clause-giving
+share_at-share-requires-clause-giving c =
+    let k = (goal.at.share_at-share-requires-clause-giving c).In-loop-k in
+    rw (here k) (covered k)
 
 pub overflow_add-before : goal.overflow_add-before
 overflow_add-before c = let g = covered (goal.at.overflow_add-before c).In-loop-k in rw (here (goal.at.overflow_add-before c).In-loop-k) (omega (arith, g.covered, g.deep))

@@ -1,16 +1,13 @@
 -- `mass::outlets::share_at` meets its contract: the floor up to its end less the floor before. Assumes nothing.
 use mathlib.Core.Path.{◌≡◌, refl, ap, ap₂, ◌∙◌}
-use Prim.Native.Nat.{ℕ, ◌+◌, ◌-◌, ◌*◌, ◌/◌, ◌≤◌}
+use Prim.Native.Nat.{ℕ, ◌+◌, ◌-◌, ◌*◌, ◌/◌}
 use native.Mathlib.Nat.{zero-add}
-use native.Mathlib.Omega.{arith}
-use lib.IntN.{ℤ, pos, neg_ℤ}
+use lib.IntN.{pos, neg_ℤ}
 use lib.ListN.{get_or}
 use mir.Facts.{to_z-of_z}
-use borrow.Author.Rules.{rules, sfits_of}
+use borrow.Author.Rules.{sfits_of}
 use Rattle.numbers.specs.Shares.{share}
 use Rattle.numbers.specs.Signed.{positive}
-use Rattle.numbers.proofs.SharesLaws.{floor_none, floor_mono}
-use Rattle.mass.specs.Ranges.{Giving}
 use Rattle.mass.proofs.outlets.share_at.Goals as goal
 use Rattle.mass.proofs.outlets.share_at.Goals.{After-floor_after-low, After-left_part}
 

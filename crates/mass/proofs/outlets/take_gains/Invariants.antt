@@ -1,11 +1,8 @@
-use mathlib.Core.Path.{◌≡◌, refl, ap, ◌∙◌}
-use Prim.Native.Nat.{ℕ, ◌-◌, ◌≤◌, ◌<◌}
-use native.Mathlib.Omega.{arith}
+use mathlib.Core.Path.{◌≡◌}
+use Prim.Native.Nat.{◌-◌, ◌≤◌}
 use lib.ListN.{length}
 use Rattle.numbers.specs.Index.{tabulate}
-use Rattle.outlet.specs.Outlets.{outlet_at}
-use Rattle.mass.specs.Ranges.{gains}
-use Rattle.mass.proofs.GainsLaws.{taken_at, taken_none, taken_long, gain_there, taken_more}
+use Rattle.mass.proofs.GainsLaws.{taken_at}
 use Rattle.mass.proofs.outlets.take_gains.Given as goal
 
 abbrev pub invariant-loop-k : goal.invariant-loop-k

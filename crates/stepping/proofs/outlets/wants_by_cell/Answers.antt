@@ -12,9 +12,7 @@ use Rattle.outlet.specs.declared.Outlets.{Outlets}
 use Rattle.drawing.specs.Ranges.{by_cell}
 use Rattle.drawing.proofs.DrawingLaws.{none_added, sum_from_cell}
 use Rattle.water.specs.Water.{wants_from}
-use borrow.Author.Rules.{rules}
-use Rattle.stepping.proofs.outlets.wants_by_cell.Statement.{statement}
-use Rattle.stepping.proofs.outlets.wants_by_cell.Tie as tie
+use Rattle.stepping.proofs.outlets.wants_by_cell.Goals as goal
 
 want_at_lem : (os : Outlets) (a : List ℕ) → a ≡ tabulate 32 (λ k. (outlet_at os k).want) → (k : ℕ) → k < 32 → get_or a k 0 ≡ (outlet_at os k).want
 want_at_lem os a e k l = rw e (get_or_tabulate 32 (λ k. (outlet_at os k).want) k 0 l)
@@ -26,27 +24,15 @@ from_zeros os column a few z e =
     tabulate_same (length column) _ _
     (λ i l. rw (z i) (zero-add (by_cell os a i)) ∙ sym (sum_from_cell os (λ o. o.want) a (λ k q. want_at_lem os a e k (omega (arith, q, few))) i))
 
-returns : tie.Need-returns
+pub returns-then-held-eq0 : goal.returns-then-held-eq0
+returns-then-held-eq0 c =
+    none_added c.args.held.outlets c.args.column.now _ c.if-held-eq0.true ∙ from_zeros c.args.held.outlets c.args.column.now _ c.requires.count_le_outlets_most c.requires.by_index_2 refl
+
+pub returns : goal.returns
 returns c =
-    let s = c.before.before.before in
-    none_added s.args.held.outlets s.args.column.now _ c.if1.true ∙ from_zeros s.args.held.outlets s.args.column.now _ s.requires.0 s.requires.1.1 refl
+    c.add_by_cell.ensures ∙ from_zeros c.args.held.outlets c.args.column.now _ c.requires.count_le_outlets_most c.requires.by_index_2 c.wants_of-amounts.ensures
 
-wants-of-requires : tie.Need-wants-of-requires
-wants-of-requires c κs = search rules
-
-add-by-cell-requires : tie.Need-add-by-cell-requires
-add-by-cell-requires c κs =
-    let s = c.before.before.before.before.before.before in
-    let p = s.requires.1.0 in
-    (s.requires.0, ((λ k l. ((p k l).0, omega (arith, want_at_lem s.args.held.outlets _ c.before.wants-of.ensures k (omega (arith, l, s.requires.0)), (p k l).1))), (λ i l. omega (arith, s.requires.1.1 i))))
-
-same_length : tie.Need-same-length
-same_length c = search rules
-
-returns-2 : tie.Need-returns-2
-returns-2 c =
-    let s = c.before.before.before.before.before.before.before.before.before in
-    c.before.before.add-by-cell.ensures ∙ from_zeros s.args.held.outlets s.args.column.now _ s.requires.0 s.requires.1.1 c.before.before.before.before.wants-of.ensures
-
-pub wants_by_cell_spec : {M : Type 1} → statement M
-wants_by_cell_spec = tie.close (tie.spec returns wants-of-requires add-by-cell-requires same_length returns-2)
+pub add_by_cell-requires-clause-by_index : goal.add_by_cell-requires-clause-by_index
+add_by_cell-requires-clause-by_index c =
+    let p = c.requires.by_index in
+    (λ k l. ((p k l).0, omega (arith, want_at_lem c.args.held.outlets _ c.wants_of-amounts.ensures k (omega (arith, l, c.requires.count_le_outlets_most)), (p k l).1)))
