@@ -20,12 +20,8 @@ use Rattle.water.specs.Sides.{side_speed, cell_side, boundary_side, left_side, r
 use Rattle.water.specs.Water.{net_at, momentum_at, own_left, own_right, new_depth, pushed, nearest, new_discharge, available, draws, draw_of, undrawn_depth}
 use Rattle.timestep.specs.GreatestStep.{boundary_speed, left_speed, right_speed, place_speed}
 use Rattle.update.specs.Step.{summed, keeps_sums, transported_first, with_water, with_boundary_water, step_ledger, after_step, time_fits, depths_fit, step, summed_drawn, stepped_outlet, step_outlets, step_held}
-use Rattle.figures.proofs.friction_met.Statement.{statement}
-use Rattle.figures.proofs.friction_met.Tie as tie
+use Rattle.figures.proofs.friction_met.Goals as goal
 
-returns : tie.Need-returns
+pub returns : goal.returns
 unfolding all_of all_below tabulate climb least_reaching share shares rest maxℤ eqℤ upper lower water_of water_flux second_moment momentum_of momentum_flux still_thrust reduced_depth left_depth right_depth net_water momentum_sum mirrored velocity wave_speed signal_speed speed_at meets_cfl sum parts outflow cell_shares rightwards leftwards moved_cell first_refusal lengths_fit cell_length_fits wall_fits open_fits fed_fits kind_fits boundary_fits boundaries_fit cell_fits cells_fit carried_fits carried_cells_fit shut_fits carried_fit totals_fit ledger_fits entering_left entering_right with_mass ledger_with transport_ledger after_transport set_boundaries transport cell_side boundary_side left_side right_side net_at momentum_at own_left own_right new_depth pushed nearest new_discharge boundary_speed left_speed right_speed side_speed place_speed summed keeps_sums transported_first with_water with_boundary_water step_ledger after_step time_fits depths_fit strickler_fits centimetres cube_fits four_thirds conveyance_squared drag slowed step moved_outlet moved_outlets outlet_fits outlets_fit outlet_totals_fit all_totals_fit transport_outlets transport_held available draws draw_of undrawn_depth summed_drawn stepped_outlet step_outlets step_held from_cell each_outlet floors units_left has_unit handed dealt
 returns c = record { depth_stays = refl; rightwards = refl; leftwards = refl; without = refl; refused = refl }
-
-pub friction_met_spec : {M : Type 1} → statement M
-friction_met_spec = tie.close (tie.spec returns)

@@ -5,10 +5,9 @@ use Rattle.numbers.specs.Shares.{share, shares, rest}
 use Rattle.flux.specs.Wave.{wave_speed}
 use Rattle.flux.specs.Crossing.{upper, lower, water_of, water_flux, second_moment, momentum_of, momentum_flux}
 use Rattle.friction.specs.Friction.{cube_fits, four_thirds}
-use Rattle.figures.proofs.figures_met.Statement.{statement}
-use Rattle.figures.proofs.figures_met.Tie as tie
+use Rattle.figures.proofs.figures_met.Goals as goal
 
-returns : tie.Need-returns
+pub returns : goal.returns
 unfolding four_thirds cube_fits wave_speed climb least_reaching water_flux water_of momentum_flux momentum_of second_moment upper lower shares share rest
 returns c =
     record {
@@ -34,6 +33,3 @@ returns c =
       B_below_0 = refl;
       B_least = refl;
     }
-
-pub figures_met_spec : {M : Type 1} → statement M
-figures_met_spec = tie.close (tie.spec returns)
