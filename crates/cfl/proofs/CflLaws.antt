@@ -104,7 +104,7 @@ module _ (speed : ℕ → ℕ) where
       (λ slower. record {
         within = omega arith;
         greatest = λ i z l. by_last (λ i. speed i ≤ speed (fastest_place speed k)) k i l (omega arith) (old.greatest i z);
-        highest = λ i l m. by_last (λ i. speed i < speed (fastest_place speed k)) k i m slower (old.highest i l);
+        highest = λ i l m. by_last (λ i. speed i < speed (fastest_place speed k)) k i m (omega arith) (old.highest i l);
       })
 
   pub fastest_within : (k : ℕ) → fastest_place speed k ≤ k
