@@ -32,12 +32,12 @@ opened c = opening (sheet (goal.at.After-open_sheet-o c).Start) (columns (goal.a
 -- the opening was lent an empty list
 opened-to : (c : After-open_sheet-o) →
     let l = c.open_sheet-o.new in
-    OpenCameTo (opened c) c.open_sheet-o.result l.1.0 l.1.1.0 l.1.1.1.0 l.1.1.1.1.0 l.1.1.1.1.1.0 l.1.1.1.1.1.1.0
+    OpenCameTo (opened c) c.open_sheet-o.result l.bed l.depth l.discharge l.mass l.base l.carried
 opened-to c =
     let l = c.open_sheet-o.new in
     let a = c.args in
     subst
-    (λ (os : Outlets). OpenCameTo (opening (sheet (goal.at.After-open_sheet-o c).Start) (lent a.bed.now a.depth.now a.discharge.now a.mass.now a.base.now a.carried.now os)) c.open_sheet-o.result l.1.0 l.1.1.0 l.1.1.1.0 l.1.1.1.1.0 l.1.1.1.1.1.0 l.1.1.1.1.1.1.0)
+    (λ (os : Outlets). OpenCameTo (opening (sheet (goal.at.After-open_sheet-o c).Start) (lent a.bed.now a.depth.now a.discharge.now a.mass.now a.base.now a.carried.now os)) c.open_sheet-o.result l.bed l.depth l.discharge l.mass l.base l.carried)
     c.no_outlets-none.ensures
     c.open_sheet-o.ensures
 
@@ -54,7 +54,7 @@ run c = let a = c.args in steps a.count a.t (opened (goal.at.After-run_steps-r c
 from-opening : (c : After-run_steps-r) →
     let w = c.open_sheet-o in
     let a = c.args in
-    steps a.count a.t (reach_of w.last.1.0 w.last.1.1.0 w.last.1.1.1.0 w.last.1.1.1.1.0 w.last.1.1.1.1.1.0 w.last.1.1.1.1.1.1.0 w.result.cell_length w.result.held)
+    steps a.count a.t (reach_of w.new.bed w.new.depth w.new.discharge w.new.mass w.new.base w.new.carried w.result.cell_length w.result.held)
     ≡ run c
 from-opening c = let a = c.args in ap (steps a.count a.t) (left_by_opening (opened-to (goal.at.After-run_steps-r c).After-open_sheet-o))
 

@@ -40,11 +40,11 @@ loop-i-preserved c =
     let e = sym f.ensures.refusal_is ∙ c.if-r-ne0.false in (
       omega (arith, l),
       c.loop-i.invariant.1 ∙ steps_on c.args.count c.loop-i.i t s _ l e (left_by_step s t 0 f.ensures),
-      f.auto.1.0 ∙ c.loop-i.invariant.2,
-      f.auto.1.1.0 ∙ c.loop-i.invariant.3,
-      f.auto.1.1.1.0 ∙ c.loop-i.invariant.4,
-      f.auto.1.1.1.1.0 ∙ c.loop-i.invariant.5,
-      f.auto.1.1.1.1.1.0 ∙ c.loop-i.invariant.6,
+      f.auto.depth ∙ c.loop-i.invariant.2,
+      f.auto.discharge ∙ c.loop-i.invariant.3,
+      f.auto.mass ∙ c.loop-i.invariant.4,
+      f.auto.base ∙ c.loop-i.invariant.5,
+      f.auto.carried ∙ c.loop-i.invariant.6,
     )
 
 pub returns : goal.returns
