@@ -7,7 +7,7 @@ use native.Mathlib.Numerals.{add-one}
 use lib.IntN.{ℤ}
 use lib.ListN.{length}
 use Rattle.reach.specs.Reach.{Reach, reach_of}
-use Rattle.reach.specs.Outcome.{Outcome, outcome}
+use Rattle.reach.specs.Outcome.{outcome}
 use Rattle.reach.specs.declared.refusal.Check.{Check}
 use Rattle.sheet.specs.Opening.{opening, sheet_record, OpenCameTo}
 use Rattle.sheet.specs.declared.opening.OpenAnswer.{OpenAnswer}
