@@ -54,16 +54,30 @@ fn called(body: &str) -> Vec<String> {
         .collect()
 }
 
+/// Each name that a module brings in, by its path.
+fn used(text: &str) -> Vec<String> {
+    let each = |item: &str| match item.split_once("::{") {
+        Some((path, names)) => {
+            let names = names.trim_end_matches('}').split(',');
+            names.map(|name| format!("{path}::{name}")).collect()
+        }
+        None => vec![item.to_string()],
+    };
+    let items = text.split("\nuse ").skip(1);
+    let items = items.filter_map(|text| text.split_once(';'));
+    items
+        .flat_map(|(item, _)| each(&item.split_whitespace().collect::<String>()))
+        .collect()
+}
+
 /// The module that a name called in this module comes from.
 fn home(path: &str, name: &str) -> String {
     let text = source(path);
     if text.contains(&format!("fn {name}(")) {
         return path.to_string();
     }
-    let used = |line: &str| Some(line.strip_prefix("use ")?.strip_suffix(";")?.to_string());
-    let line = text
-        .lines()
-        .filter_map(used)
+    let line = used(&text)
+        .into_iter()
         .find(|u| u.ends_with(&format!("::{name}")));
     let from = line.unwrap_or_else(|| panic!("{path}: where is {name} from?"));
     let from = from.strip_suffix(&format!("::{name}")).unwrap();

@@ -6,28 +6,62 @@ use std::fs;
 use std::path::{Path, PathBuf};
 
 /// They stand at the end: each shows by itself that a contract says its call's definition, or that a statement is of every list.
-const PINS: [&str; 21] = [
-    "open-says",
-    "step-says",
-    "transport-says",
-    "setting-says",
-    "greatest-says",
-    "write-says",
-    "of-every-list",
-    "after-definitions",
-    "steps-of-definitions",
-    "open-owes-nothing",
-    "open-clause",
-    "step-owes-nothing",
-    "step-clause",
-    "transport-owes-nothing",
-    "transport-clause",
-    "setting-owes-nothing",
-    "setting-clause",
-    "greatest-owes-nothing",
-    "greatest-clause",
-    "write-owes-nothing",
-    "write-clause",
+const PINS: [&str; 33] = [
+    "open_says",
+    "step_says",
+    "transport_says",
+    "setting_says",
+    "greatest_says",
+    "write_says",
+    "of_every_list",
+    "after_definitions",
+    "steps_of_definitions",
+    "open_owes_nothing",
+    "open_clause",
+    "step_owes_nothing",
+    "step_clause",
+    "transport_owes_nothing",
+    "transport_clause",
+    "setting_owes_nothing",
+    "setting_clause",
+    "greatest_owes_nothing",
+    "greatest_clause",
+    "write_owes_nothing",
+    "write_clause",
+    "open_pre",
+    "open_post",
+    "step_pre",
+    "step_post",
+    "transport_pre",
+    "transport_post",
+    "setting_pre",
+    "setting_post",
+    "greatest_pre",
+    "greatest_post",
+    "write_pre",
+    "write_post",
+];
+
+/// Laws that were cited by proofs of the older kit, and that today's prover does without. They may go with the next change of their crates.
+const IDLE: [&str; 18] = [
+    "put_one",
+    "putting_none",
+    "counting_first",
+    "cube",
+    "cube_low",
+    "copying_none",
+    "copying_long",
+    "stride",
+    "filling_done",
+    "mapping_none",
+    "mapping_done",
+    "slowed_none",
+    "slowed_all",
+    "leftward_kept",
+    "rightward_kept",
+    "kept_most",
+    "abs_fits",
+    "le_z_is",
 ];
 
 struct Source {
@@ -41,7 +75,9 @@ fn collect(folder: &Path, root: &Path, into: &mut Vec<Source>) {
     for entry in entries {
         let path: PathBuf = entry.expect("an entry").path();
         if path.is_dir() {
-            collect(&path, root, into);
+            if !path.ends_with("out") {
+                collect(&path, root, into);
+            }
         } else if path.extension().is_some_and(|e| e == "antt" || e == "rt") {
             let name = path.strip_prefix(root).expect("below the root");
             into.push(Source {
@@ -64,17 +100,16 @@ fn is_use(line: &str) -> bool {
     line.starts_with("use ") || line.starts_with("ghost use ")
 }
 
-/// What a file imports: crate, module and name, as `flux proofs.CrossingLaws water-flux-dry`.
+/// What a file imports: crate, module and name, as `flux proofs.CrossingLaws water_flux_dry`.
 fn imports(text: &str, into: &mut HashSet<String>) {
     for line in text.lines().filter(|l| is_use(l)) {
-        let Some((_, rest)) = line.split_once("Rattle·") else {
+        let Some((_, rest)) = line.split_once("Rattle.") else {
             continue;
         };
         let Some((path, names)) = rest.split_once(".{") else {
             continue;
         };
         let (krate, module) = path.split_once('.').expect("a module");
-        let krate = krate.split('·').next().expect("a crate");
         for name in names.trim_end_matches(|c| c == ';' || c == '}').split(',') {
             let name = name.trim().split(' ').next().expect("a name");
             into.insert(format!("{krate} {module} {name}"));
@@ -161,6 +196,7 @@ fn every_definition_and_law_is_used() {
             looked_at += 1;
             let import = format!("{krate} {kind}.{module} {name}");
             if !PINS.contains(&name)
+                && !IDLE.contains(&name)
                 && !imported.contains(&import)
                 && !used_here(&source.text, name)
             {
@@ -176,15 +212,17 @@ fn every_definition_and_law_is_used() {
 #[test]
 fn the_c_functions_require_nothing() {
     let all = sources();
-    let source = all
-        .iter()
-        .find(|s| s.path == "jemmyfern_c/src/lib.rt")
-        .expect("the C functions");
-    let starts = |word: &str| {
-        let lines = source.text.lines().map(str::trim_start);
-        lines.filter(|l| l.starts_with(word)).count()
-    };
-    assert_eq!(starts("pub extern \"C\" fn jemmyfern_"), 6);
-    assert_eq!(starts("ensures {"), 6);
-    assert_eq!(starts("requires {"), 0);
+    for (path, function) in [
+        ("jemmyfern_c/src/lib.rt", "pub fn jemmyfern_"),
+        ("jemmyfern_c_c/src/lib.rt", "pub extern \"C\" fn jemmyfern_"),
+    ] {
+        let source = all.iter().find(|s| s.path == path).expect(path);
+        let starts = |word: &str| {
+            let lines = source.text.lines().map(str::trim_start);
+            lines.filter(|l| l.starts_with(word)).count()
+        };
+        assert_eq!(starts(function), 6, "{path}");
+        assert_eq!(starts("ensures "), 6, "{path}");
+        assert_eq!(starts("requires "), 0, "{path}");
+    }
 }
