@@ -208,21 +208,24 @@ fn every_definition_and_law_is_used() {
     assert!(unused.is_empty(), "nothing uses {unused:#?}");
 }
 
-/// The word itself, beside the theorem `AsksNothing`, which goes by names: no function of the C interface requires anything, and each ensures something.
+/// The word itself, beside the theorem `AsksNothing`, which goes by names: no function of the C interface requires anything, and each ensures something, as an
+/// export just what the function does that it calls.
 #[test]
 fn the_c_functions_require_nothing() {
     let all = sources();
-    for (path, function) in [
+    let ensured = [
         ("jemmyfern_c/src/lib.rt", "pub fn jemmyfern_"),
         ("jemmyfern_c_c/src/lib.rt", "pub extern \"C\" fn jemmyfern_"),
-    ] {
+    ]
+    .map(|(path, function)| {
         let source = all.iter().find(|s| s.path == path).expect(path);
-        let starts = |word: &str| {
-            let lines = source.text.lines().map(str::trim_start);
-            lines.filter(|l| l.starts_with(word)).count()
-        };
-        assert_eq!(starts(function), 6, "{path}");
-        assert_eq!(starts("ensures "), 6, "{path}");
-        assert_eq!(starts("requires "), 0, "{path}");
-    }
+        let lines = source.text.lines().map(str::trim_start);
+        let starting =
+            |word: &str| -> Vec<&str> { lines.clone().filter(|l| l.starts_with(word)).collect() };
+        assert_eq!(starting(function).len(), 6, "{path}");
+        assert_eq!(starting("ensures ").len(), 6, "{path}");
+        assert_eq!(starting("requires ").len(), 0, "{path}");
+        starting("ensures ")
+    });
+    assert_eq!(ensured[0], ensured[1], "an export has another contract");
 }
