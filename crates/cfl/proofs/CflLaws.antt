@@ -4,7 +4,7 @@ use mathlib.Core.Path.{◌≡◌, sym, ap, subst, ◌∙◌}
 use mathlib.Core.Bool.{Bool, true, false, cond}
 use mathlib.Core.List.{List}
 use mathlib.Core.Logic.{⊎_elim}
-use Prim.Native.Nat.{ℕ, zero, suc, ◌+◌, ◌*◌, ◌/◌, ◌≤◌, ◌<◌, zero-le}
+use Prim.Native.Nat.{ℕ, zero, suc, ◌+◌, ◌*◌, ◌/◌, ◌≤◌, ◌<◌, min, zero-le}
 use native.Mathlib.Nat.{le-div_iff_mul-le, le_antisymm, le_trans, eq-or-lt_of_le, le_of_suc-le-suc, lt_of_not-le, mul-le-mul_left, mul-le-mul_right, div-mul-le_self}
 use native.Mathlib.Numerals.{add-one}
 use native.Mathlib.Omega.{arith}
@@ -52,15 +52,17 @@ module _ (X v : ℕ) where
   step_for_greatest t l m =
       climb_reaches (λ n. leb (suc n * v) (1_000 * X)) time_step_most 0 t l (λ n k. le→leb _ _ (le_trans (mul-le-mul_right v k) m))
 
-  -- in closed form: the whole of it where the signal is slow, and else the quotient
+  -- in closed form: the whole of it where the signal is slow, and else the quotient, if that is less
   pub step_for_slow : time_step_most * v ≤ 1_000 * X → step_for X v ≡ time_step_most
   step_for_slow l = le_antisymm step_for_most (step_for_greatest time_step_most (omega arith) l)
 
-  pub step_for_is : 0 < v → 1_000 * X / v ≤ time_step_most → step_for X v ≡ 1_000 * X / v
-  step_for_is p l =
+  pub step_for_is : 0 < v → step_for X v ≡ min (1_000 * X / v) time_step_most
+  step_for_is p =
+      let least = min (1_000 * X / v) time_step_most in
+      let below : least ≤ 1_000 * X / v = omega arith in
       le_antisymm
-      ((le-div_iff_mul-le p).1 step_for_meets)
-      (step_for_greatest (1_000 * X / v) l (div-mul-le_self (1_000 * X) v))
+      (omega (arith, (le-div_iff_mul-le p).1 step_for_meets, step_for_most))
+      (step_for_greatest least (omega arith) (le_trans (mul-le-mul_right v below) (div-mul-le_self (1_000 * X) v)))
 
 -- ---- the fastest place
 

@@ -9,7 +9,7 @@ ghost use Rattle.cfl.specs.Ranges.{FlowColumns, step_for};
 
 use flux::velocity::flow_speed;
 use flux::wave::wave_speed;
-use numbers::root::root_table;
+use numbers::root::SquareRoots;
 
 // Whether v + a(h) is above `least`, told without a root: what v leaves of `least` is below a(h) where its square is below 3gh/2
 fn is_above(h: u64, v: u64, least: u64) -> bool
@@ -37,12 +37,10 @@ pub fn fastest_of(depth: &[u64], discharge: &[i64], left: u64, right: u64) -> Fa
     ensures { (result.place ≡ fastest_place (speed_at depth.now discharge.now left right) (length depth.now + 1)) × (result.speed ≡ speed_at depth.now discharge.now left right result.place) }
 {
     let n = depth.len();
-    let roots = root_table();
+    let roots = SquareRoots::new();
     let mut place = n + 1;
     let mut speed = right;
-    let mut i = n;
-    while 0 < i {
-        i -= 1;
+    for i in (0..n).rev() {
         let h = depth[i];
         let v = flow_speed(h, discharge[i]);
         if is_above(h, v, speed) {
@@ -67,9 +65,5 @@ pub fn longest_step(x: u64, speed: u64) -> u64
     if speed == 0 {
         return 1_000;
     }
-    let t = 1_000 * x / speed;
-    if 1_000 < t {
-        return 1_000;
-    }
-    t
+    (1_000 * x / speed).min(1_000)
 }

@@ -13,12 +13,14 @@ use std::io::{self, Read, Write};
 fn respond<W: Write>(input: &[u8], to: &mut W) -> io::Result<()>
     ensures { OnOk result (Appends (W.contents to.old) (W.contents to.new) (program_text input.now)) }
 {
+    // no heap: room for the longest text
     let mut out = [0u8; 65_536];
     let n = program(input, &mut out);
     to.write_all(&out[..n])
 }
 
-// Reads until `buf` is full or the input ends, and answers how many bytes it put at the start of `buf`.
+// Reads until `buf` is full or the input ends, and answers how many bytes it put at the start of `buf`. A read gives as many bytes as it likes, so
+// this is a `while`: `read_exact` loses how many came before the end, and `read_to_end` wants a heap.
 fn read_full<R: Read>(from: &mut R, buf: &mut [u8]) -> io::Result<usize>
     ensures within { IfOk result (λ n. n ≤ length buf.new) }
     ensures length { length buf.new ≡ length buf.old }
@@ -39,6 +41,7 @@ fn read_full<R: Read>(from: &mut R, buf: &mut [u8]) -> io::Result<usize>
 pub fn run_on<R: Read, W: Write>(from: &mut R, to: &mut W) -> io::Result<()>
     ensures { OnOk result (IfSome (R.remaining from.old) (λ xs. Appends (W.contents to.old) (W.contents to.new) (program_text (take 12_377 xs)))) }
 {
+    // no heap: room for the longest input
     let mut input = [0u8; INPUT_MOST + 1];
     let n = read_full(from, &mut input)?;
     respond(&input[..n], to)

@@ -1,25 +1,22 @@
 -- Demand 1 from the contracts of the six functions.
 use mathlib.Core.Path.{◌≡◌, refl, sym, ap, ◌∙◌, subst}
-use mathlib.Core.Bool.{Bool, true, false, cond, ◌&&◌, not}
+use mathlib.Core.Bool.{false}
 use mathlib.Core.List.{List, [], ◌∷◌}
 use Prim.Native.Nat.{ℕ}
-use borrow.Author.Tests.{eq-eqb, ne_eqb}
-use lib.Dec.{eqb}
+use borrow.Author.Tests.{ne_eqb}
 use lib.IntN.{ℤ}
 use lib.ListN.{length}
 use Rattle.outlet.specs.Outlets.{loaded}
 use Rattle.outlet.specs.declared.Outlet.{Outlet}
-use Rattle.outlet.specs.declared.Outlets.{Outlets}
 use Rattle.outlet.proofs.LentLaws.{same_list}
 use Rattle.reach.specs.Reach.{Reach}
-use Rattle.reach.specs.Grounds.{Ground, ground, first_refusal, number_of, record_grounds}
-use Rattle.reach.specs.Outcome.{Outcome, outcome}
+use Rattle.reach.specs.Grounds.{Ground, first_refusal, number_of, record_grounds}
+use Rattle.reach.specs.Outcome.{outcome}
 use Rattle.reach.proofs.GroundsLaws.{go_on, stop_at}
 use Rattle.reach.specs.declared.boundary.Boundary.{Boundary}
 use Rattle.reach.specs.declared.held.Held.{Held}
 use Rattle.reach.specs.declared.ledger.Ledger.{Ledger}
-use Rattle.reach.specs.declared.refusal.Check.{Check}
-use Rattle.reach.specs.declared.refusal.Check.TheVariants.{Pass, Refused}
+use Rattle.reach.specs.Grounds.{Verdict}
 use Rattle.transport.specs.Calls.{transport_grounds, transport, set_boundaries, after_transport, holding, CameTo}
 use Rattle.timestep.specs.GreatestStep.{greatest, greatest_by}
 use Rattle.timestep.specs.declared.GreatestAnswer.{GreatestAnswer}
@@ -27,7 +24,7 @@ use Rattle.update.specs.Step.{step, step_grounds, after_step, transports}
 use Rattle.stepping.specs.StepCall.{StepCameTo}
 use Rattle.sheet.specs.Opening.{lent, open_grounds, opening, sheet_record, OpenCameTo}
 use Rattle.writing.specs.Writing.{write_refusal, write_grounds, output_after, output_by}
-use Rattle.jemmyfern_c.specs.Answers.{given_held, RestKept, open_with, step_with, transport_with, greatest_with, write_with}
+use Rattle.jemmyfern_c.specs.Answers.{given_held, RestKept, open_with, step_with, transport_with, greatest_with}
 use Rattle.jemmyfern_c.specs.declared.answer.Answer.{Answer}
 use Rattle.jemmyfern_c.specs.declared.answer.Opened.{Opened}
 use Rattle.jemmyfern_c.specs.declared.answer.Stepped.{Stepped}
@@ -35,6 +32,7 @@ use Rattle.jemmyfern_c.specs.declared.answer.Greatest.{Greatest}
 use Rattle.jemmyfern_c.proofs.Says.{open_asks_nothing, step_asks_nothing, transport_asks_nothing, setting_asks_nothing, greatest_asks_nothing, write_asks_nothing}
 use Rattle.jemmyfern_c.proofs.Functions.{given, OpenLeft, StepLeft, TransportLeft}
 use Rattle.demands.specs.Demand1.{AsksNothing, First, RefusedByTheFirst, IsRefused, StaysAsItCame}
+use Rattle.std.specs.Prelude.{Ok, Err}
 
 pub asks_nothing : AsksNothing
 asks_nothing = record {
@@ -52,21 +50,21 @@ pub first : (gs : List Ground) → First (number_of (first_refusal gs)) gs
 unfolding First first_refusal
 first [] = refl
 first (g ∷ gs) = (
-  λ e. subst (λ (k : Check). First (number_of k) gs) (sym (go_on g gs e refl)) (first gs),
+  λ e. subst (λ (k : Verdict). First (number_of k) gs) (sym (go_on g gs e refl)) (first gs),
   λ e. ap number_of (stop_at g gs e),
 )
 
-pub number : (k : Check) (s t : Reach) → (outcome k s t).refusal ≡ number_of k
-number Pass s t = refl
-number (Refused n) s t = refl
+pub number_is : (k : Verdict) (s t : Reach) → (outcome k s t).refusal ≡ number_of k
+number_is (Ok u) s t = refl
+number_is (Err n) s t = refl
 
 -- of a call that comes to an outcome by its grounds
 by_outcome : (gs : List Ground) (s t : Reach) {n : ℕ} → n ≡ (outcome (first_refusal gs) s t).refusal → First n gs
-by_outcome gs s t e = subst (λ (x : ℕ). First x gs) (sym (e ∙ number (first_refusal gs) s t)) (first gs)
+by_outcome gs s t e = subst (λ (x : ℕ). First x gs) (sym (e ∙ number_is (first_refusal gs) s t)) (first gs)
 
-pub greatest_number : (k : Check) (s : Reach) → (greatest_by k s).refusal ≡ number_of k
-greatest_number Pass s = refl
-greatest_number (Refused n) s = refl
+pub greatest_number : (k : Verdict) (s : Reach) → (greatest_by k s).refusal ≡ number_of k
+greatest_number (Ok u) s = refl
+greatest_number (Err n) s = refl
 
 pub refused_by_the_first : RefusedByTheFirst
 unfolding opening step transport set_boundaries greatest write_refusal
@@ -83,9 +81,9 @@ refused_by_the_first = record {
 
 -- ---- a refused call leaves all as it came
 
-stayed : (k : Check) (s t : Reach) → IsRefused (outcome k s t).refusal → (outcome k s t).reach ≡ s
-stayed Pass s t ne = absurd (ne refl)
-stayed (Refused n) s t ne = refl
+stayed : (k : Verdict) (s t : Reach) → IsRefused (outcome k s t).refusal → (outcome k s t).reach ≡ s
+stayed (Ok u) s t ne = absurd (ne refl)
+stayed (Err n) s t ne = refl
 
 -- what a call handed back to hold, and the list that it left, by what is held of them
 pub boundaries_of_lem : (os : List Outlet) {es : List Boundary} {k : Ledger} {h : Held} → given_held es k os ≡ h → es ≡ h.boundaries
@@ -126,7 +124,7 @@ unfolding transports
 not_transported s t F ne = rw (ne_eqb (step s t F).refusal 0 ne) refl
 
 -- a transport or a setting of boundaries, with the list os lent
-moved_nothing : (k : Check) (s t : Reach) (os : List Outlet) {r : Answer} {e : TransportLeft} → s.held.outlets ≡ loaded os
+moved_nothing : (k : Verdict) (s t : Reach) (os : List Outlet) {r : Answer} {e : TransportLeft} → s.held.outlets ≡ loaded os
     → CameTo (outcome k s t) (transport_with r e.outlets) e.mass e.base e.carried × RestKept os e.outlets → IsRefused r.refusal
     → (r ≡ record { refusal = r.refusal; boundaries = s.held.boundaries; ledger = s.held.ledger }) × (e ≡ record { mass = s.mass; base = s.base; carried = s.carried; outlets = os })
 moved_nothing k s t os {r} {e} lent (c, rest) ne =
@@ -137,10 +135,10 @@ moved_nothing k s t os {r} {e} lent (c, rest) ne =
           (same_list e.outlets os (outlets_of e.outlets held ∙ lent) rest),
     )
 
-greatest_stays : (k : Check) (s : Reach) → IsRefused (greatest_by k s).refusal
+greatest_stays : (k : Verdict) (s : Reach) → IsRefused (greatest_by k s).refusal
     → greatest_by k s ≡ record { refusal = (greatest_by k s).refusal; held = s.held; time = 0; place = 0 }
-greatest_stays Pass s ne = absurd (ne refl)
-greatest_stays (Refused n) s ne = refl
+greatest_stays (Ok u) s ne = absurd (ne refl)
+greatest_stays (Err n) s ne = refl
 
 -- so has an answer that is one
 greatest_stayed : (os : List Outlet) {r : Greatest} {a : GreatestAnswer} {h : Held} → greatest_with r os ≡ a → (IsRefused a.refusal → a ≡ record { refusal = a.refusal; held = h; time = 0; place = 0 }) → IsRefused r.refusal
@@ -154,9 +152,9 @@ greatest_stayed os {r} {a} {h} e f ne =
         → r ≡ record { refusal = r.refusal; boundaries = es; ledger = k; time = t; place = p }
     all r es k t p o f q g = rw (sym o, sym f, sym q, sym g) refl
 
-output_stays : (k : Check) (s : Reach) (out : List ℕ) → IsRefused (number_of k) → output_by k s out ≡ out
-output_stays Pass s out ne = absurd (ne refl)
-output_stays (Refused n) s out ne = refl
+output_stays : (k : Verdict) (s : Reach) (out : List ℕ) → IsRefused (number_of k) → output_by k s out ≡ out
+output_stays (Ok u) s out ne = absurd (ne refl)
+output_stays (Err n) s out ne = refl
 
 refused_opening : (sheet : List ℕ) (l : Reach) → IsRefused (opening sheet l).refusal → (opening sheet l).reach ≡ l
 unfolding opening

@@ -1,31 +1,30 @@
 -- Demand 2 from the contracts of the six functions and the round trip.
 use mathlib.Core.Path.{◌≡◌, refl, sym, ap, ◌∙◌, subst}
-use mathlib.Core.Bool.{Bool, true, false, cond, ◌&&◌, not}
-use mathlib.Core.List.{List, [], ◌∷◌, ◌++◌}
-use Prim.Native.Nat.{ℕ, zero, suc, ◌+◌, ◌*◌, ◌≤◌, ◌<◌}
+use mathlib.Core.Bool.{Bool, true, false}
+use mathlib.Core.List.{List, ◌++◌}
+use Prim.Native.Nat.{ℕ, zero, suc, ◌+◌, ◌≤◌, ◌<◌}
 use native.Mathlib.Omega.{arith}
 use borrow.Author.Tests.{le-leb, leb-true}
-use lib.Dec.{leb, eqb}
+use lib.Dec.{leb}
 use lib.IntN.{ℤ, pos, neg_ℤ, ◌+ℤ◌, +ℤ_idl}
-use lib.ListN.{length, get_or, take, drop, replicate}
+use lib.ListN.{length, get_or, drop, replicate}
 use Rattle.numbers.specs.Index.{all_below, sum}
 use Rattle.numbers.specs.Signed.{positive}
 use Rattle.numbers.proofs.IndexLaws.{all_at, all_below_lem, get_or_tabulate}
-use Rattle.outlet.specs.Outlets.{outlets_most, no_outlet, outlet_at, each_outlet, cleared, loaded}
+use Rattle.outlet.specs.Outlets.{outlets_most, no_outlet, outlet_at, each_outlet, loaded}
 use Rattle.outlet.specs.declared.Outlet.{Outlet}
 use Rattle.outlet.specs.declared.Outlets.{Outlets}
 use Rattle.outlet.proofs.OutletLaws.{each_at}
 use Rattle.outlet.proofs.LentLaws.{outlet_loaded}
 use Rattle.reach.specs.Reach.{Reach, cells, base_at, carried_at}
 use Rattle.reach.specs.Parts.{outflow}
-use Rattle.reach.specs.Grounds.{Ground, first_refusal, number_of, record_grounds}
+use Rattle.reach.specs.Grounds.{first_refusal, record_grounds}
 use Rattle.reach.specs.Outcome.{Outcome, outcome}
 use Rattle.reach.specs.declared.boundary.Boundary.{Boundary}
 use Rattle.reach.specs.declared.held.Held.{Held}
 use Rattle.reach.specs.declared.ledger.Ledger.{Ledger}
-use Rattle.reach.specs.declared.refusal.Check.{Check}
-use Rattle.reach.specs.declared.refusal.Check.TheVariants.{Pass, Refused}
-use Rattle.reach.proofs.GroundsLaws.{numbered, refused_number, stood}
+use Rattle.reach.specs.Grounds.{Verdict}
+use Rattle.reach.proofs.GroundsLaws.{accepts, stood}
 use Rattle.reach.proofs.Sound.{outlets_few}
 use Rattle.reach.proofs.PartsLaws.{outflow_is}
 use Rattle.mass.specs.Transport.{moved_outlet, moved_outlets}
@@ -44,43 +43,35 @@ use Rattle.encoding.specs.ToBytes.{written}
 use Rattle.writing.specs.Writing.{sheet_bytes, write_refusal, output_after, output_by}
 use Rattle.writing.specs.RoundTrip.{read_back}
 use Rattle.writing.proofs.RoundTripUses.{write_passes, write_then_open, open_then_write}
-use Rattle.jemmyfern_c.specs.Answers.{given_held, open_with, step_with, transport_with, greatest_with}
-use Rattle.jemmyfern_c.specs.declared.answer.Answer.{Answer}
+use Rattle.jemmyfern_c.specs.Answers.{given_held, open_with, step_with, greatest_with}
 use Rattle.jemmyfern_c.specs.declared.answer.Opened.{Opened}
 use Rattle.jemmyfern_c.specs.declared.answer.Stepped.{Stepped}
 use Rattle.jemmyfern_c.specs.declared.answer.Greatest.{Greatest}
 use Rattle.jemmyfern_c.proofs.Functions.{Lent, given, OpenLeft, StepLeft}
-use Rattle.demands.proofs.Demand1Laws.{number, greatest_number, boundaries_of_lem, ledger_of, outlets_of, open_is, six}
+use Rattle.demands.proofs.Demand1Laws.{number_is, greatest_number, boundaries_of_lem, ledger_of, outlets_of, open_is, six}
 use Rattle.demands.specs.Demand2.{Covered, Kept, NotKept, DigitForDigit, ReadBack, WroteAgain}
+use Rattle.std.specs.Prelude.{Ok}
 
--- a call that answers 0 stood all its grounds, since none of them has the number 0
-stood_all : (gs : List Ground) → numbered gs ≡ true → number_of (first_refusal gs) ≡ 0 → first_refusal gs ≡ Pass
-stood_all gs m = go (first_refusal gs) refl
-  where
-    go : (k : Check) → first_refusal gs ≡ k → number_of k ≡ 0 → k ≡ Pass
-    go Pass e z = refl
-    go (Refused n) e z = absurd (omega (arith, z, refused_number gs n m e))
-
-moved : (gs : List Ground) (s t : Reach) → numbered gs ≡ true → (outcome (first_refusal gs) s t).refusal ≡ 0 → (outcome (first_refusal gs) s t).reach ≡ t
-moved gs s t m z = ap (λ (k : Check). (outcome k s t).reach) (stood_all gs m (sym (number (first_refusal gs) s t) ∙ z))
+moved : (k : Verdict) (s t : Reach) → (outcome k s t).refusal ≡ 0 → (outcome k s t).reach ≡ t
+moved k s t z = ap (λ (k : Verdict). (outcome k s t).reach) (accepts k (sym (number_is k s t) ∙ z))
 
 opened_is : (sheet : List ℕ) (l : Reach) → (opening sheet l).refusal ≡ 0 → (opening sheet l).reach ≡ sheet_record sheet l.held.outlets
-unfolding opening numbered
+unfolding opening
 opened_is sheet l =
-    moved (open_grounds sheet (length l.bed) (length l.depth) (length l.discharge) (length l.mass) (length l.base) (length l.carried) l.held.outlets) l
-    (sheet_record sheet l.held.outlets) refl
+    moved (first_refusal (open_grounds sheet (length l.bed) (length l.depth) (length l.discharge) (length l.mass) (length l.base) (length l.carried) l.held.outlets)) l
+    (sheet_record sheet l.held.outlets)
 
 pub stepped_is : (s : Reach) (t F : ℕ) → (step s t F).refusal ≡ 0 → (step s t F).reach ≡ after_step s t F
-unfolding step numbered
-stepped_is s t F = moved (step_grounds s t F) s (after_step s t F) refl
+unfolding step
+stepped_is s t F = moved (first_refusal (step_grounds s t F)) s (after_step s t F)
 
 transported_is : (s : Reach) → (transport s).refusal ≡ 0 → (transport s).reach ≡ after_transport s
-unfolding transport numbered
-transported_is s = moved (transport_grounds s s.held.boundaries) s (after_transport s) refl
+unfolding transport
+transported_is s = moved (first_refusal (transport_grounds s s.held.boundaries)) s (after_transport s)
 
 set_is : (s : Reach) (new : List Boundary) → (set_boundaries s new).refusal ≡ 0 → (set_boundaries s new).reach ≡ holding new (after_transport s)
-unfolding set_boundaries numbered
-set_is s new = moved (transport_grounds s new) s (holding new (after_transport s)) refl
+unfolding set_boundaries
+set_is s new = moved (first_refusal (transport_grounds s new)) s (holding new (after_transport s))
 
 -- ---- the moment of settling
 
@@ -144,9 +135,9 @@ unfolding after_transport
 none_carried_lem s i = get_or_zeros (length s.carried) i
 
 -- an accepted step was lent at most 32 outlets
-step_stood : (s : Reach) (t F : ℕ) → (step s t F).refusal ≡ 0 → first_refusal (step_grounds s t F) ≡ Pass
-unfolding step numbered
-step_stood s t F z = stood_all (step_grounds s t F) refl (sym (number (first_refusal (step_grounds s t F)) s (after_step s t F)) ∙ z)
+step_stood : (s : Reach) (t F : ℕ) → (step s t F).refusal ≡ 0 → first_refusal (step_grounds s t F) ≡ Ok tt
+unfolding step
+step_stood s t F z = accepts (first_refusal (step_grounds s t F)) (sym (number_is (first_refusal (step_grounds s t F)) s (after_step s t F)) ∙ z)
 
 step_few : (s : Reach) (t F : ℕ) → (step s t F).refusal ≡ 0 → s.held.outlets.count ≤ outlets_most
 step_few s t F z = outlets_few (cells s) s.held.outlets (stood (step_grounds s t F) (step_stood s t F z) 5)
@@ -215,19 +206,19 @@ not_kept_is s t F {r} {e} k z i l ne =
 
 -- ---- the answers of an accepted greatest_step_lem call and of a write
 
-pub greatest_stood : (s : Reach) → (greatest s).refusal ≡ 0 → first_refusal (record_grounds s s.held.boundaries) ≡ Pass
-unfolding greatest numbered
+pub greatest_stood : (s : Reach) → (greatest s).refusal ≡ 0 → first_refusal (record_grounds s s.held.boundaries) ≡ Ok tt
+unfolding greatest
 greatest_stood s z =
     let gs = record_grounds s s.held.boundaries in
-    stood_all gs refl (sym (greatest_number (first_refusal gs) s) ∙ z)
+    accepts (first_refusal gs) (sym (greatest_number (first_refusal gs) s) ∙ z)
 
 pub greatest_is : (s : Reach) → (greatest s).refusal ≡ 0 → greatest s ≡ record { refusal = 0; held = s.held; time = greatest_time s; place = greatest_place s }
 unfolding greatest
-greatest_is s z = ap (λ (k : Check). greatest_by k s) (greatest_stood s z)
+greatest_is s z = ap (λ (k : Verdict). greatest_by k s) (greatest_stood s z)
 
-output_is : (s : Reach) (out : List ℕ) → write_refusal s (length out) ≡ Pass → output_after s out ≡ sheet_bytes s ++ drop (length (sheet_bytes s)) out
+output_is : (s : Reach) (out : List ℕ) → write_refusal s (length out) ≡ Ok tt → output_after s out ≡ sheet_bytes s ++ drop (length (sheet_bytes s)) out
 unfolding output_after written
-output_is s out e = ap (λ (k : Check). output_by k s out) e
+output_is s out e = ap (λ (k : Verdict). output_by k s out) e
 
 -- the lent columns and list as an opening is given them
 abbrev pub lent_by : Lent → Reach

@@ -8,12 +8,12 @@ use borrow.Author.Tests.{eq-eqb, ne_eqb}
 use lib.Dec.{eqb}
 use lib.Dec as Dec
 use lib.IntN.{ℤ, pos, negsuc, ◌+ℤ◌, ◌-ℤ◌}
-use lib.ListN.{length, get_or}
+use lib.ListN.{get_or}
 use lib.Signed.{le_z, le_z_yes}
-use Rattle.numbers.specs.Index.{tabulate, sum}
+use Rattle.numbers.specs.Index.{sum}
 use Rattle.numbers.specs.Signed.{positive}
 use Rattle.numbers.proofs.IndexLaws.{get_or_tabulate}
-use Rattle.outlet.specs.Outlets.{outlet_at, loaded}
+use Rattle.outlet.specs.Outlets.{loaded}
 use Rattle.outlet.specs.declared.Outlet.{Outlet}
 use Rattle.outlet.specs.declared.Outlets.{Outlets}
 use Rattle.outlet.proofs.OutletLaws.{each_at}
@@ -28,9 +28,8 @@ use Rattle.tally.specs.Tally.{Tally, add_water, add_mass, add_step, add_draws, a
 use Rattle.tally.specs.Holds.{Holds}
 use Rattle.tally.proofs.HoldsLaws.{water_held_lem, mass_held_lem, count_held, outlet_held, bounds_held, latest_depths, latest_available, latest_wanted}
 use Rattle.tally.proofs.TallyLaws.{no_draws_cleared}
-use Rattle.trace.specs.Trace.{StepLink, Link, Chain, done, then}
+use Rattle.trace.specs.Trace.{Link, Chain, done, then}
 use Rattle.trace.proofs.TraceLaws.{demand_3, link, answer_is, made, made_first, first_accepted, opened_of_list, final_of_list, every_list}
-use Rattle.jemmyfern_c.proofs.Functions.{given}
 use Rattle.demands.specs.Demand3.{AfterList, AfterEveryList, OfEveryStep, DepthsLeft, NoDepthBelowZero, DrawsWithinWants, NoWantExceeded, GivesFromZero, AvailableFromZero, WaterAdded, WaterSame, MassAdded, MassSame, TallyCourse}
 use Rattle.demands.proofs.Demand2Laws.{stepped_is, keeps, keeps_not}
 

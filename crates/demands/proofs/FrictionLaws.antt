@@ -14,13 +14,13 @@ use Rattle.friction.proofs.FrictionLaws.{strickler_none, four_thirds_fits, four_
 use Rattle.reach.specs.Grounds.{first_refusal}
 use Rattle.reach.specs.Outcome.{outcome}
 use Rattle.reach.specs.Reach.{Reach}
-use Rattle.reach.specs.declared.refusal.Check.{Check}
-use Rattle.reach.specs.declared.refusal.Check.TheVariants.{Pass, Refused}
+use Rattle.reach.specs.Grounds.{Verdict}
 use Rattle.water.specs.Sides.{cell_side}
 use Rattle.water.specs.Water.{new_depth, pushed, nearest, new_discharge}
 use Rattle.water.proofs.WaterLaws.{nearest_parts}
 use Rattle.update.specs.Step.{step_grounds, after_step, step, transports}
 use Rattle.demands.specs.Friction.{GreatestRoot, NoFurther, Friction, WithoutFriction}
+use Rattle.std.specs.Prelude.{Ok, Err}
 
 greatest_root : (k : ℕ) → GreatestRoot k (four_thirds k)
 greatest_root k = record {
@@ -93,9 +93,9 @@ friction_is = record {
 }
 
 -- the number does not hang on the record that an accepted call leaves
-by_the_check : (v : Check) (s r r' : Reach) → (outcome v s r).refusal ≡ (outcome v s r').refusal
-by_the_check Pass s r r' = refl
-by_the_check (Refused n) s r r' = refl
+by_the_check : (v : Verdict) (s r r' : Reach) → (outcome v s r).refusal ≡ (outcome v s r').refusal
+by_the_check (Ok u) s r r' = refl
+by_the_check (Err n) s r r' = refl
 
 module _ (s : Reach) (t F : ℕ) (f : strickler_fits F ≡ true) where
   same_number : (step s t F).refusal ≡ (step s t 0).refusal

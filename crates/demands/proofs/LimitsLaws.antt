@@ -85,6 +85,7 @@ limits = record {
 pub lists : Lists
 unfolding after_step after_transport sheet_record
 lists = record {
+  numbers = refl;
   record_list = λ s es. refl;
   step_list = λ s t F. refl;
   transport_list = λ s es. refl;

@@ -33,15 +33,14 @@ use Rattle.reach.specs.Outcome.{Outcome}
 use Rattle.reach.specs.Parts.{outflow, drawn_from}
 use Rattle.reach.specs.declared.boundary.Boundary.{Boundary}
 use Rattle.reach.specs.declared.boundary.BoundaryPlace.TheVariants.{Left, Right}
-use Rattle.reach.specs.declared.refusal.Check.{Check}
-use Rattle.reach.specs.declared.refusal.Check.TheVariants.{Pass}
+use Rattle.reach.specs.Grounds.{Verdict}
 use Rattle.reach.proofs.PartsLaws.{outflow_is}
 use Rattle.reach.proofs.Sound.{Sound, sound}
 use Rattle.mass.specs.Transport.{rightwards, leftwards, outlet_share}
 use Rattle.mass.proofs.TransportLaws.{right_share_floor, left_share_floor, outlet_share_at}
-use Rattle.transport.specs.Calls.{mass_columns_of, after_transport, transport}
+use Rattle.transport.specs.Calls.{mass_columns_of, after_transport}
 use Rattle.transport.proofs.CallsLaws.{emptied_at, by_transport, stands_again, transport_is, left_by_setting, left_by_transport}
-use Rattle.timestep.specs.GreatestStep.{left_speed, right_speed, place_speed, greatest, greatest_time, greatest_place}
+use Rattle.timestep.specs.GreatestStep.{left_speed, right_speed, place_speed, greatest_time, greatest_place}
 use Rattle.timestep.specs.declared.GreatestAnswer.{GreatestAnswer}
 use Rattle.timestep.proofs.GreatestLaws.{time_in_range, place_left, place_cell, place_right, boundary_fed, speed_other, dry_reach}
 use Rattle.water.specs.Water.{available, wants_from, draws, draw_of, new_depth, undrawn_depth}
@@ -58,6 +57,7 @@ use Rattle.demands.specs.Demand1.{First}
 use Rattle.demands.specs.Model.{Amounts, Drawing, WithNoOutlet, NoGrainKept, PlaceSpeeds, Fastest, GreatestStep, OneFastest, UnroundedCflAt, UnroundedCfl, NotTooLong, Stands, StandsAgain}
 use Rattle.demands.proofs.Demand1Laws.{first}
 use Rattle.demands.proofs.Demand2Laws.{transported_count, lent_by, greatest_stood, greatest_is}
+use Rattle.std.specs.Prelude.{Ok}
 
 pub amounts : Amounts
 unfolding upper lower
@@ -321,10 +321,10 @@ not_too_long = record {
 }
 
 -- a record that passes is one that stands
-passed : {s s' : Reach} → s ≡ s' → ((es : List Boundary) → boundaries_fit es ≡ true → first_refusal (record_grounds s' es) ≡ Pass) → Stands s
+passed : {s s' : Reach} → s ≡ s' → ((es : List Boundary) → boundaries_fit es ≡ true → first_refusal (record_grounds s' es) ≡ Ok tt) → Stands s
 passed {s} {s'} e f es g =
     subst (λ (x : Reach). First 0 (record_grounds x es)) (sym e)
-    (subst (λ (k : Check). First (number_of k) (record_grounds s' es)) (f es g) (first (record_grounds s' es)))
+    (subst (λ (k : Verdict). First (number_of k) (record_grounds s' es)) (f es g) (first (record_grounds s' es)))
 
 pub stand_again : StandsAgain
 stand_again = record {

@@ -5,6 +5,7 @@ use Rattle.std.specs.Prelude.{◌≡◌, true, false, List, [], ◌∷◌, ℕ, 
 use contract.Lifetimes.{Lfts}
 use Rattle.std.specs.Borrow.{Bor, MutBor}
 use Rattle.outlet.specs.Outlets.{loaded}
+use Rattle.reach.specs.Refusals.{number}
 use Rattle.reach.specs.Grounds.{Ground, record_grounds}
 use Rattle.reach.specs.declared.boundary.Boundary.{Boundary}
 use Rattle.reach.specs.declared.held.Held.{Held}
@@ -31,7 +32,7 @@ pub record AsksNothing : Type 0 where
 -- n is the number of the first ground of a list that does not stand, 0 where all of them stand
 unfoldable pub First : ℕ → List Ground → Type 0
 First n [] = n ≡ 0
-First n (g ∷ gs) = (g.stands ≡ true → First n gs) × (g.stands ≡ false → n ≡ g.number)
+First n (g ∷ gs) = (g.stands ≡ true → First n gs) × (g.stands ≡ false → n ≡ number g.refusal)
 
 -- '.. within document 01's limits is accepted .. Everything else is refused with the first number in its list that applies'
 pub record RefusedByTheFirst : Type 0 where

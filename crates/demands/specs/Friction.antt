@@ -12,6 +12,7 @@ use Rattle.reach.specs.Outcome.{outcome}
 use Rattle.water.specs.Water.{net_at, new_depth, pushed, nearest, new_discharge}
 use Rattle.timestep.specs.GreatestStep.{place_speed}
 use Rattle.update.specs.Step.{transported_first, step_held, time_fits, depths_fit, step, transports, after_step}
+use Rattle.reach.specs.declared.refusal.Refusal.TheVariants as refusal
 
 -- 'the greatest whole r with r³ ≤ 1,000·k⁴'
 pub record GreatestRoot (k r : ℕ) : Type 0 where
@@ -61,10 +62,10 @@ pub record WithoutFriction : Type 0 where
   pub step_is : (s : Reach) (t : ℕ)
       → step s t 0
       ≡ outcome (first_refusal (record_grounds s s.held.boundaries
-      ++ (ground 10 (time_fits t)
-      ∷ ground 11 (meets_cfl (place_speed s) (cells s + 1) s.cell_length t)
-      ∷ ground 12 (depths_fit s t)
-      ∷ ground 13 (all_totals_fit (step_held s t))
+      ++ (ground refusal.TimeStep (time_fits t)
+      ∷ ground refusal.Cfl (meets_cfl (place_speed s) (cells s + 1) s.cell_length t)
+      ∷ ground refusal.Depth (depths_fit s t)
+      ∷ ground refusal.Total (all_totals_fit (step_held s t))
       ∷ []))) s (frictionless s t)
   -- an F that is allowed changes neither the number of a step nor whether it transports first,
   pub same_number : (s : Reach) (t F : ℕ) → strickler_fits F ≡ true → (step s t F).refusal ≡ (step s t 0).refusal

@@ -1,5 +1,5 @@
 -- Demand 1, 'within document 01's limits' and 'the first number in its list': each call's list of grounds, and what each ground tests, in numbers.
-use Rattle.std.specs.Prelude.{◌≡◌, true, false, cond, ◌&&◌, ◌||◌, List, [], ◌∷◌, ◌++◌, ℕ, suc, ◌+◌, ◌*◌, leb, ltb, eqb, ℤ, pos, ◌+ℤ◌, ◌-ℤ◌, neg_ℤ, nat_abs, length, get_or}
+use Rattle.std.specs.Prelude.{◌≡◌, map, true, false, cond, ◌&&◌, ◌||◌, List, [], ◌∷◌, ◌++◌, ℕ, suc, ◌+◌, ◌*◌, leb, ltb, eqb, ℤ, pos, ◌+ℤ◌, ◌-ℤ◌, neg_ℤ, nat_abs, length, get_or}
 use Rattle.std.specs.Int.Signed.{le_z}
 use Rattle.numbers.specs.Index.{all_of, all_below, tabulate, sum}
 use Rattle.numbers.specs.Signed.{positive, eqℤ}
@@ -10,7 +10,9 @@ use Rattle.outlet.specs.declared.Outlet.{Outlet}
 use Rattle.outlet.specs.declared.Outlets.{Outlets}
 use Rattle.reach.specs.Reach.{Reach, cells, no_boundary}
 use Rattle.reach.specs.Parts.{drawn_from}
-use Rattle.reach.specs.Grounds.{Ground, ground, record_grounds, lengths_fit, cell_length_fits, wall_fits, open_fits, fed_fits, kind_fits, boundary_fits, boundaries_fit, cell_fits, cells_fit, carried_fits, carried_cells_fit, shut_fits, carried_fit, totals_fit, ledger_fits, outlet_fits, outlets_fit, outlet_totals_fit, all_totals_fit}
+use Rattle.reach.specs.Refusals.{number}
+use Rattle.reach.specs.declared.refusal.Refusal.TheVariants as refusal
+use Rattle.reach.specs.Grounds.{ground, record_grounds, lengths_fit, cell_length_fits, wall_fits, open_fits, fed_fits, kind_fits, boundary_fits, boundaries_fit, cell_fits, cells_fit, carried_fits, carried_cells_fit, shut_fits, carried_fit, totals_fit, ledger_fits, outlet_fits, outlets_fit, outlet_totals_fit, all_totals_fit}
 use Rattle.reach.specs.declared.boundary.Boundary.{Boundary}
 use Rattle.reach.specs.declared.held.Held.{Held}
 use Rattle.reach.specs.declared.ledger.Totals.{Totals}
@@ -128,43 +130,49 @@ pub record Limits : Type 0 where
   -- 15: the output is not shorter than the sheet, 80+24n
   pub room : (n room : ℕ) → room_fits n room ≡ leb (80 + 24 * n) room
 
--- the lists of grounds, in checking order: which test has which number
+-- the lists of grounds, in checking order, and the number of each ground
 pub record Lists : Type 0 where
+  -- the number of each ground
+  pub numbers :
+      map number
+      (refusal.Edition ∷ refusal.Size ∷ refusal.Layout ∷ refusal.Lengths ∷ refusal.CellLength ∷ refusal.Boundaries ∷ refusal.Values ∷ refusal.Carried ∷ refusal.Ledger ∷ refusal.TimeStep
+      ∷ refusal.Cfl ∷ refusal.Depth ∷ refusal.Total ∷ refusal.NotTransported ∷ refusal.ShortOutput ∷ refusal.Outlets ∷ refusal.Strickler ∷ [])
+      ≡ 1 ∷ 2 ∷ 3 ∷ 4 ∷ 5 ∷ 6 ∷ 7 ∷ 8 ∷ 9 ∷ 10 ∷ 11 ∷ 12 ∷ 13 ∷ 14 ∷ 15 ∷ 16 ∷ 17 ∷ []
   -- 'Every other call on a record uses 4 to 9', with 16 'checked after 7' (the greatest_step_lem call no others); 6 twice, for the boundaries held and those newly given (`es`: for a call that is given none, those held)
   pub record_list : (s : Reach) (es : List Boundary)
       → record_grounds s es
-      ≡ ground 4 (lengths_fit (length s.bed) (length s.depth) (length s.discharge) (length s.mass) (length s.base) (length s.carried))
-      ∷ ground 5 (cell_length_fits s.cell_length)
-      ∷ ground 6 (boundaries_fit s.held.boundaries)
-      ∷ ground 6 (boundaries_fit es)
-      ∷ ground 7 (cells_fit s.bed s.depth s.discharge s.mass s.base)
-      ∷ ground 16 (outlets_fit (length s.bed) s.held.outlets)
-      ∷ ground 8 (carried_fit s.depth s.base s.carried (drawn_from s.held.outlets) (get_or s.held.boundaries 0 no_boundary).kind (get_or s.held.boundaries 1 no_boundary).kind)
-      ∷ ground 9 (all_totals_fit s.held)
+      ≡ ground refusal.Lengths (lengths_fit (length s.bed) (length s.depth) (length s.discharge) (length s.mass) (length s.base) (length s.carried))
+      ∷ ground refusal.CellLength (cell_length_fits s.cell_length)
+      ∷ ground refusal.Boundaries (boundaries_fit s.held.boundaries)
+      ∷ ground refusal.Boundaries (boundaries_fit es)
+      ∷ ground refusal.Values (cells_fit s.bed s.depth s.discharge s.mass s.base)
+      ∷ ground refusal.Outlets (outlets_fit (length s.bed) s.held.outlets)
+      ∷ ground refusal.Carried (carried_fit s.depth s.base s.carried (drawn_from s.held.outlets) (get_or s.held.boundaries 0 no_boundary).kind (get_or s.held.boundaries 1 no_boundary).kind)
+      ∷ ground refusal.Ledger (all_totals_fit s.held)
       ∷ []
   -- 'then a step uses 10 to 13, a settling or end setting 13, a write 14 and 15', with 17 'checked after 10'
   pub step_list : (s : Reach) (t F : ℕ)
       → step_grounds s t F
       ≡ record_grounds s s.held.boundaries
-      ++ (ground 10 (time_fits t)
-      ∷ ground 17 (strickler_fits F)
-      ∷ ground 11 (meets_cfl (place_speed s) (cells s + 1) s.cell_length t)
-      ∷ ground 12 (depths_fit s t)
-      ∷ ground 13 (all_totals_fit (after_step s t F).held)
+      ++ (ground refusal.TimeStep (time_fits t)
+      ∷ ground refusal.Strickler (strickler_fits F)
+      ∷ ground refusal.Cfl (meets_cfl (place_speed s) (cells s + 1) s.cell_length t)
+      ∷ ground refusal.Depth (depths_fit s t)
+      ∷ ground refusal.Total (all_totals_fit (after_step s t F).held)
       ∷ [])
-  pub transport_list : (s : Reach) (es : List Boundary) → transport_grounds s es ≡ record_grounds s es ++ (ground 13 (all_totals_fit (after_transport s).held) ∷ [])
+  pub transport_list : (s : Reach) (es : List Boundary) → transport_grounds s es ≡ record_grounds s es ++ (ground refusal.Total (all_totals_fit (after_transport s).held) ∷ [])
   pub write_list : (s : Reach) (room : ℕ)
-      → write_grounds s room ≡ record_grounds s s.held.boundaries ++ (ground 14 (none_carried s.carried && none_drawn s.held.outlets) ∷ ground 15 (room_fits (cells s) room) ∷ [])
+      → write_grounds s room ≡ record_grounds s s.held.boundaries ++ (ground refusal.NotTransported (none_carried s.carried && none_drawn s.held.outlets) ∷ ground refusal.ShortOutput (room_fits (cells s) room) ∷ [])
   -- 'Opening uses 1 to 7', of the sheet and of the lengths of the lent columns, then 16 of the outlets lent
   pub open_list : (s : List ℕ) (z h q m b c : ℕ) (os : Outlets) →
       let r = sheet_record s os in
       open_grounds s z h q m b c os
-      ≡ ground 1 (edition_fits s)
-      ∷ ground 2 (size_fits s)
-      ∷ ground 3 (columns_clear (length s) (spans_of s))
-      ∷ ground 4 (lent_fit (number_at 4 s 8) z h q m b c)
-      ∷ ground 5 (cell_length_fits r.cell_length)
-      ∷ ground 6 (boundaries_fit r.held.boundaries)
-      ∷ ground 7 (cells_fit r.bed r.depth r.discharge r.mass r.base)
-      ∷ ground 16 (outlets_fit (number_at 4 s 8) os)
+      ≡ ground refusal.Edition (edition_fits s)
+      ∷ ground refusal.Size (size_fits s)
+      ∷ ground refusal.Layout (columns_clear (length s) (spans_of s))
+      ∷ ground refusal.Lengths (lent_fit (number_at 4 s 8) z h q m b c)
+      ∷ ground refusal.CellLength (cell_length_fits r.cell_length)
+      ∷ ground refusal.Boundaries (boundaries_fit r.held.boundaries)
+      ∷ ground refusal.Values (cells_fit r.bed r.depth r.discharge r.mass r.base)
+      ∷ ground refusal.Outlets (outlets_fit (number_at 4 s 8) os)
       ∷ []

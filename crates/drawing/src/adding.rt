@@ -14,12 +14,7 @@ pub fn add_by_cell(outlets: Outlets, amounts: [u64; 32], column: &mut [u64])
     ensures { column.new ≡ tabulate (length column.old) (λ i. get_or column.old i 0 + by_cell outlets amounts i) }
 {
     let n = outlets.count;
-    let list = outlets.list;
-    let mut k = 0;
-    while k < n {
-        let o = list[k];
-        let cell = o.cell as usize;
-        column[cell] = column[cell] + amounts[k];
-        k += 1;
+    for (k, o) in outlets.list[..n].iter().enumerate() {
+        column[o.cell as usize] += amounts[k];
     }
 }

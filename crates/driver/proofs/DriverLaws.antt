@@ -8,7 +8,7 @@ use lib.IntN.{ℤ}
 use lib.ListN.{length}
 use Rattle.reach.specs.Reach.{Reach, reach_of}
 use Rattle.reach.specs.Outcome.{outcome}
-use Rattle.reach.specs.declared.refusal.Check.{Check}
+use Rattle.reach.specs.Grounds.{Verdict}
 use Rattle.sheet.specs.Opening.{opening, sheet_record, OpenCameTo}
 use Rattle.sheet.specs.declared.opening.OpenAnswer.{OpenAnswer}
 use Rattle.sheet.proofs.OpeningLaws.{by_opening, left_by_opening}
@@ -59,7 +59,7 @@ unopened : (sheet : List ℕ) (l : Reach) → ((opening sheet l).refusal ≡ 0 �
 unfolding opening
 unopened sheet l =
     by_opening sheet l
-    (λ (x : Check). ((outcome x l (sheet_record sheet l.held.outlets)).refusal ≡ 0 → ⊥) → (outcome x l (sheet_record sheet l.held.outlets)).reach ≡ l)
+    (λ (x : Verdict). ((outcome x l (sheet_record sheet l.held.outlets)).refusal ≡ 0 → ⊥) → (outcome x l (sheet_record sheet l.held.outlets)).reach ≡ l)
     (λ n p f. refl)
     (λ e f. absurd (f refl))
 

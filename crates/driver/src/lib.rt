@@ -12,7 +12,7 @@ use player::call::play_call;
 use reach::held::Held;
 use sheet::opening::open_sheet;
 
-// 0, or the number of the ground that refused the first opening; X, boundaries, ledger and outlets as the last call left them
+// 0, or the number of the ground that refused the first opening (C has it by `harness`); X, boundaries, ledger and outlets as the last call left them
 #[repr(C)]
 #[derive(Clone, Copy)]
 pub struct Replayed {
@@ -21,7 +21,7 @@ pub struct Replayed {
     pub held: Held,
 }
 
-// Past the end nothing is noted.
+// Past the end nothing is noted. No `get_mut`: it does not say what the slice ends as.
 fn put(answers: &mut [u64], at: usize, v: u64)
     ensures { answers.new ≡ set answers.old at v }
 {
@@ -30,23 +30,14 @@ fn put(answers: &mut [u64], at: usize, v: u64)
     }
 }
 
-fn flag_of(transported: bool) -> u64
-    ensures { result ≡ flag transported }
-{
-    if transported {
-        return 1;
-    }
-    0
-}
-
 // Four words an answer
 fn note(answers: &mut [u64], j: usize, refusal: u32, transported: bool, time: u64, place: usize)
     requires { j ≤ 1_000_000_000_000_000_000 }
     ensures { answers.new ≡ noted answers.old j refusal (flag transported) time place }
 {
     let at = 4 * j;
-    put(answers, at, refusal as u64);
-    put(answers, at + 1, flag_of(transported));
+    put(answers, at, u64::from(refusal));
+    put(answers, at + 1, u64::from(transported));
     put(answers, at + 2, time);
     put(answers, at + 3, place as u64);
 }
@@ -72,8 +63,7 @@ pub fn resume(
     let n = words.len() / 206;
     let mut cell_length = x;
     let mut current = held;
-    let mut j = 0;
-    while j < n {
+    for j in 0..n {
         let before = current;
         let p = play_call(
             words,
@@ -93,7 +83,6 @@ pub fn resume(
         let after = p.held;
         cell_length = p.cell_length;
         current = after;
-        j += 1;
     }
     Replayed {
         refusal: 0,

@@ -1,21 +1,19 @@
-// Little-endian numbers and columns of them, written as bytes. A width w comes with `half`, half of 256^w, where numbers are signed.
-ghost use Rattle.std.specs.Prelude.{◌≡◌, ◌++◌, map, ℕ, ◌+◌, ◌*◌, ◌^◌, ◌≤◌, ◌<◌, pos, nat_abs, length, get_or, take, drop};
+// Little-endian numbers and columns of them, written as bytes. A width w comes with `half`, half of 256^w, where numbers are signed;
+// not one struct, since unsigned numbers have any width, and no `half`.
+ghost use Rattle.std.specs.Prelude.{◌≡◌, ◌++◌, map, ℕ, ◌+◌, ◌*◌, ◌^◌, ◌≤◌, ◌<◌, pos, nat_abs, length, get_or, take, drop, All};
 ghost use Rattle.reach.specs.Limits.{cells_most};
 ghost use Rattle.encoding.specs.ToBytes.{bytes_of, bits_in, bits, column_bytes, written};
 
-use numbers::signed::{left_part, right_part};
-use reach::cells::CELLS_MOST;
-
-// Two's complement in a range of 2·half numbers, which itself may not fit the type
+// Two's complement in a range of 2·half numbers, which itself may not fit the type. Of any width: `cast_unsigned` is that of 8 bytes alone.
 pub fn bits_in(half: u64, z: i64) -> u64
     requires { (half ≤ 9_223_372_036_854_775_808) × (nat_abs z < half) }
     ensures { result ≡ bits_in (2 * half) z }
 {
-    let left = left_part(z);
-    if left == 0 {
-        return right_part(z);
+    if z < 0 {
+        half - z.unsigned_abs() + half
+    } else {
+        z as u64
     }
-    half - left + half
 }
 
 // The lowest w bytes of v, at the start of out
@@ -24,27 +22,29 @@ pub fn put_number(out: &mut [u8], w: usize, v: u64)
     ensures { out.new ≡ written (bytes_of w v) out.old }
 {
     let mut rest = v;
-    let mut i = 0;
-    while i < w {
-        out[i] = (rest % 256) as u8;
-        rest = rest / 256;
-        i += 1;
+    for byte in &mut out[..w] {
+        *byte = (rest % 256) as u8;
+        rest /= 256;
     }
 }
 
-// A column of numbers of w bytes, at the start of out
+// A column of numbers of w bytes, each as `bits` gives it, at the start of out
+fn fill_each<T: Copy, F: Fn(T) -> u64>(out: &mut [u8], w: usize, column: &[T], bits: F)
+    requires column_fits { w * length column.now ≤ length out.old }
+    requires callable { All (F.pre bits) column.now }
+    ensures { (f : T → ℕ) → ((z : T) (r : ℕ) → F.pre bits z → F.post bits z r → r ≡ f z) → out.new ≡ written (column_bytes w (map f column.now)) out.old }
+{
+    for (i, z) in column.iter().enumerate() {
+        put_number(&mut out[w * i..], w, bits(*z));
+    }
+}
+
+// The numbers as they stand
 pub fn fill(out: &mut [u8], w: usize, column: &[u64])
     requires { w * length column.now ≤ length out.old }
     ensures { out.new ≡ written (column_bytes w column.now) out.old }
 {
-    let mut i = 0;
-    let mut at = 0;
-    while i < column.len() {
-        let v = column[i];
-        put_number(&mut out[at..], w, v);
-        i += 1;
-        at += w;
-    }
+    fill_each(out, w, column, |v| v);
 }
 
 // The same from `at` on
@@ -55,20 +55,6 @@ pub fn put_column(out: &mut [u8], at: usize, w: usize, column: &[u64])
     fill(&mut out[at..], w, column);
 }
 
-// The two's complement of a column, at the start of bits
-fn bits_column(column: &[i64], half: u64, bits: &mut [u64])
-    requires half_bound { (half ≤ 9_223_372_036_854_775_808) × (length column.now ≤ length bits.old) }
-    requires by_index { (i : ℕ) → i < length column.now → nat_abs (get_or column.now i (pos 0)) < half }
-    ensures { bits.new ≡ map (bits_in (2 * half)) column.now ++ drop (length column.now) bits.old }
-{
-    let mut i = 0;
-    while i < column.len() {
-        let z = column[i];
-        bits[i] = bits_in(half, z);
-        i += 1;
-    }
-}
-
 // A column of signed numbers of w bytes, from `at` on
 pub fn put_signed(out: &mut [u8], at: usize, w: usize, half: u64, column: &[i64])
     requires half_bound { (half ≤ 9_223_372_036_854_775_808) × (2 * half ≡ 256 ^ w) }
@@ -76,8 +62,5 @@ pub fn put_signed(out: &mut [u8], at: usize, w: usize, half: u64, column: &[i64]
     requires by_index { (i : ℕ) → i < length column.now → nat_abs (get_or column.now i (pos 0)) < half }
     ensures { out.new ≡ take at out.old ++ written (column_bytes w (map (bits w) column.now)) (drop at out.old) }
 {
-    let mut bits = [0u64; CELLS_MOST];
-    bits_column(column, half, &mut bits);
-    let n = column.len();
-    fill(&mut out[at..], w, &bits[..n]);
+    fill_each(&mut out[at..], w, column, |z| bits_in(half, z));
 }

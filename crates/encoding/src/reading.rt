@@ -1,12 +1,7 @@
-// Little-endian numbers and columns of them, read from bytes. A width w comes with `half`, half of 256^w, where numbers are signed.
-ghost use Rattle.std.specs.Prelude.{◌≡◌, ◌+◌, ◌*◌, ◌^◌, ◌≤◌, ◌<◌, length};
+// Little-endian numbers and columns of them, read from bytes. A width w comes with `half`, half of 256^w, where numbers are signed;
+// not one struct, since unsigned numbers have any width, and no `half`.
+ghost use Rattle.std.specs.Prelude.{◌≡◌, ℕ, ◌+◌, ◌*◌, ◌^◌, ◌≤◌, ◌<◌, length};
 ghost use Rattle.encoding.specs.FromBytes.{number_at, twos_in, twos, column_at};
-
-fn wide(x: u8) -> u64
-    ensures { (result ≡ x) × (result < 256) }
-{
-    x as u64
-}
 
 // The number in the w bytes from `at` on
 pub fn read_number(s: &[u8], at: usize, w: usize) -> u64
@@ -14,15 +9,13 @@ pub fn read_number(s: &[u8], at: usize, w: usize) -> u64
     ensures { (result ≡ number_at w s.now at) × (result < 256 ^ w) }
 {
     let mut v = 0;
-    let mut i = w;
-    while 0 < i {
-        i -= 1;
-        v = wide(s[at + i]) + 256 * v;
+    for i in (0..w).rev() {
+        v = u64::from(s[at + i]) + 256 * v;
     }
     v
 }
 
-// Two's complement in a range of 2·half numbers
+// Two's complement in a range of 2·half numbers. Of any width: `cast_signed` is that of 8 bytes alone.
 pub fn twos_in(half: u64, v: u64) -> i64
     requires { (half ≤ 9_223_372_036_854_775_808) × (v < 2 * half) }
     ensures { result ≡ twos_in (2 * half) v }
@@ -42,17 +35,23 @@ pub fn read_signed(s: &[u8], at: usize, w: usize, half: u64) -> i64
     twos_in(half, read_number(s, at, w))
 }
 
+// Every entry becomes what `entry` makes of the number at its place in the column of numbers of w bytes from `at` on.
+fn read_each<T: Copy, F: Fn(u64) -> T>(s: &[u8], at: usize, w: usize, to: &mut [T], entry: F)
+    requires w_bound { (w ≤ 8) × (at + w * length to.old ≤ length s.now) }
+    requires callable { (v : ℕ) → v < 256 ^ w → F.pre entry v }
+    ensures { (f : ℕ → T) → ((v : ℕ) (r : T) → v < 256 ^ w → F.post entry v r → r ≡ f v) → to.new ≡ column_at f w s.now at (length to.old) }
+{
+    for (i, e) in to.iter_mut().enumerate() {
+        *e = entry(read_number(s, at + w * i, w));
+    }
+}
+
 // Every entry becomes the number at its place in the column of numbers of w bytes from `at` on.
 pub fn read_column(s: &[u8], at: usize, w: usize, to: &mut [u64])
     requires { (w ≤ 8) × (at + w * length to.old ≤ length s.now) }
     ensures { to.new ≡ column_at (λ v. v) w s.now at (length to.old) }
 {
-    let n = to.len();
-    let mut i = 0;
-    while i < n {
-        to[i] = read_number(s, at + w * i, w);
-        i += 1;
-    }
+    read_each(s, at, w, to, |v| v);
 }
 
 // The same of signed numbers
@@ -61,10 +60,5 @@ pub fn read_signed_column(s: &[u8], at: usize, w: usize, half: u64, to: &mut [i6
     requires half_bound { (half ≤ 9_223_372_036_854_775_808) × (2 * half ≡ 256 ^ w) }
     ensures { to.new ≡ column_at (twos w) w s.now at (length to.old) }
 {
-    let n = to.len();
-    let mut i = 0;
-    while i < n {
-        to[i] = read_signed(s, at + w * i, w, half);
-        i += 1;
-    }
+    read_each(s, at, w, to, |v| twos_in(half, v));
 }

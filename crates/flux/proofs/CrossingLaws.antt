@@ -136,12 +136,6 @@ module _ {a A B : ℕ} (s : Spectrum a A B) where
   pub square_low : B * B ≤ A * A
   square_low = mul-le-mul s.lower s.lower
 
-  pub cube : A * A * A ≤ 4_096_000_000_000
-  cube = mul-le-mul square s.upper
-
-  pub cube_low : B * B * B ≤ A * A * A
-  cube_low = mul-le-mul square_low s.lower
-
   pub moment_most_lem : second_moment a A B ≤ moment_most
   unfolding second_moment
   moment_most_lem = le_trans (div-le_of_le-mul (6 * a) (cubes a A B s.lower s.width)) square

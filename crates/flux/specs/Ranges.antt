@@ -1,6 +1,5 @@
 -- Not the paper's: what the inner functions require and give. A reader of the model may skip this file.
 use Rattle.std.specs.Prelude.{◌≡◌, ℕ, ◌+◌, ◌*◌, ◌≤◌, ◌<◌}
-use Rattle.numbers.specs.Quotient.{DivisorFits}
 use Rattle.numbers.specs.declared.quotient.Divisor.{Divisor}
 use Rattle.flux.specs.Limits.{depth_most, velocity_most, time_step_most, cell_length_least, cell_length_most}
 use Rattle.flux.specs.Wave.{wave_speed}
@@ -18,10 +17,9 @@ pub record Mesh (t X : ℕ) : Type 0 where
   pub least : cell_length_least ≤ X
   pub most : X ≤ cell_length_most
 
--- 1,000·X, the length of a cell in micrometres, as a divisor
+-- 1,000·X, the length of a cell in micrometres, as a divisor (whose type says that its reciprocal is its own)
 pub record SpanOf (X : ℕ) (span : Divisor) : Type 0 where
   pub value_is : span.value ≡ 1_000 * X
-  pub fits : DivisorFits span
 
 -- a depth h with its wave speed a, and a velocity right − left
 pub record Flow (h a right left : ℕ) : Type 0 where

@@ -5,7 +5,7 @@ ghost use Rattle.flux.specs.Limits.{depth_most, velocity_most, cell_length_least
 ghost use Rattle.flux.specs.Crossing.{upper, lower, water_of, second_moment, momentum_of, water_flux, momentum_flux, still_thrust};
 ghost use Rattle.flux.specs.Ranges.{Mesh, SpanOf, Flow, Spectrum, moment_most, wave_most};
 
-use numbers::quotient::{Divisor, divisor_of, quotient};
+use numbers::quotient::Divisor;
 use numbers::signed::{joined, right_part};
 
 // A and B: of the speeds of a cell, those that go rightwards are lower..upper
@@ -33,7 +33,7 @@ pub fn span_of(x: u64) -> Divisor
     requires { (cell_length_least ≤ x) × (x ≤ cell_length_most) }
     ensures { SpanOf x result }
 {
-    divisor_of(1_000 * x)
+    Divisor::new(1_000 * x)
 }
 
 // W of a wet depth
@@ -57,11 +57,11 @@ fn momentum_of(t: u64, x: u64, span: Divisor, h: u64, k: u64) -> u64
     requires { Mesh t x × (SpanOf x span × ((h ≤ depth_most) × (k ≤ moment_most))) }
     ensures { result ≡ momentum_of t x h k }
 {
-    quotient(h * t * k, span)
+    span.divide(h * t * k)
 }
 
 // W and Q of one side
-#[derive(Clone, Copy)]
+#[derive(Clone, Copy, Default)]
 pub struct Fluxes {
     pub water: u64,
     pub momentum: u64,
@@ -73,10 +73,7 @@ pub fn fluxes_of(t: u64, x: u64, span: Divisor, h: u64, a: u64, right: u64, left
     ensures { (result.water ≡ water_flux t x h (sub_ℕ right left)) × (result.momentum ≡ momentum_flux t x h (sub_ℕ right left)) }
 {
     if h == 0 {
-        return Fluxes {
-            water: 0,
-            momentum: 0,
-        };
+        return Fluxes::default();
     }
     let s = rightgoing_of(a, right, left);
     Fluxes {

@@ -5,34 +5,28 @@ pub mod table;
 
 ghost use Rattle.std.specs.Prelude.{◌≡◌, ◌+◌, ◌*◌, ◌/◌, ◌≤◌, ◌<◌, min, nat_abs};
 ghost use Rattle.flux.specs.Limits.{velocity_most, time_step_most};
-ghost use Rattle.friction.specs.Friction.{strickler_fits, centimetres, table_most, Roots, conveyance_squared, drag, slowed_by};
+ghost use Rattle.friction.specs.Friction.{strickler_fits, centimetres, table_most, conveyance_squared, drag, slowed_by};
 ghost use Rattle.friction.specs.Ranges.{strickler_most, conveyance_squared_most, drag_most, pushed_most};
 
 use numbers::signed::{joined, left_part, right_part};
-use table::root_of;
+use table::FourThirds;
 
 // Whether a coefficient is allowed: 0, or 10 to 90
 pub fn strickler_fits(f: u64) -> bool
     ensures { result ≡ strickler_fits f }
 {
-    if f == 0 {
-        return true;
-    }
-    if f < 10 {
-        return false;
-    }
-    f <= 90
+    f == 0 || 10 <= f && f <= 90
 }
 
 // D of a depth h
-pub fn conveyance_squared(f: u64, h: u64, roots: &[u16; 401]) -> u64
-    requires { (f ≤ strickler_most) × Roots roots.now }
+pub fn conveyance_squared(f: u64, h: u64, powers: &FourThirds) -> u64
+    requires { f ≤ strickler_most }
     ensures { (result ≡ conveyance_squared f (min (centimetres h) table_most)) × (result ≤ conveyance_squared_most) }
 {
     if f == 0 {
         return 0;
     }
-    f * f * root_of(h / 10_000, roots)
+    f * f * powers.root_of(h / 10_000)
 }
 
 // E of a speed v

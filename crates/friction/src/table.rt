@@ -35,26 +35,22 @@ const FOUR_THIRDS: [u16; 401] = [
     28396, 28493, 28591, 28688, 28786, 28884, 28982, 29079, 29177, 29275, 29374, 29472,
 ];
 
-// The table, taken once for a whole sweep: a constant array is built anew wherever it is named
-pub fn four_thirds() -> [u16; 401]
-    ensures { Roots result }
-{
-    FOUR_THIRDS
+// That list, laid out once for a whole sweep: a constant array is built anew wherever it is named.
+#[derive(Drop)]
+pub struct FourThirds {
+    pub table: [u16; 401],
+    pub ghost roots: { Roots table },
 }
 
-fn wide(x: u16) -> u64
-    ensures { result ≡ x }
-{
-    x as u64
-}
-
-// The root of k; past the table its last entry stands: a depth above 4 m is refused later, by ground 12
-pub fn root_of(k: u64, roots: &[u16; 401]) -> u64
-    requires { Roots roots.now }
-    ensures { (result ≡ four_thirds (min k table_most)) × (result ≤ four_thirds_most) }
-{
-    if k < 400 {
-        return wide(roots[k as usize]);
+impl FourThirds {
+    pub fn new() -> FourThirds {
+        FourThirds { table: FOUR_THIRDS }
     }
-    wide(roots[400])
+
+    // The root of k; past the table its last entry stands: a depth above 4 m is refused later, by ground 12
+    pub fn root_of(&self, k: u64) -> u64
+        ensures { (result ≡ four_thirds (min k table_most)) × (result ≤ four_thirds_most) }
+    {
+        u64::from(self.table[k.min(400) as usize])
+    }
 }

@@ -20,7 +20,7 @@ use flux::crossing::{fluxes_of, rightgoing_of, span_of, still_thrust};
 use flux::interface::reduced_depth;
 use flux::velocity::velocity_parts;
 use flux::wave::wave_speed;
-use numbers::root::root_table;
+use numbers::root::SquareRoots;
 use numbers::signed::{joined, left_part, right_part};
 use outlet::Outlets;
 use program::program;
@@ -30,7 +30,7 @@ pub extern "C" fn harness_wave_speed(h: u64) -> u64
     requires { h ≤ depth_most }
     ensures { result ≡ wave_speed h }
 {
-    let roots = root_table();
+    let roots = SquareRoots::new();
     wave_speed(h, &roots)
 }
 
@@ -48,7 +48,7 @@ pub extern "C" fn harness_side(t: u64, x: u64, h: u64, u: i64) -> Side
     requires { Mesh t x × ((h ≤ depth_most) × (nat_abs u ≤ velocity_most)) }
     ensures { (result.water ≡ water_flux t x h u) × ((result.momentum ≡ momentum_flux t x h u) × (result.still ≡ still_thrust t x h)) }
 {
-    let roots = root_table();
+    let roots = SquareRoots::new();
     let a = wave_speed(h, &roots);
     let span = span_of(x);
     let c = fluxes_of(t, x, span, h, a, right_part(u), left_part(u));

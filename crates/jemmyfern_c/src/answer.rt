@@ -1,4 +1,4 @@
-// What the C functions are given and answer by value: all that is held but the outlets, which are lent.
+// What the C functions are given and answer by value: all that is held but the outlets, which are lent. A refusal is its number, 0 for none, as C has it.
 ghost use Rattle.std.specs.Prelude.{◌≡◌};
 ghost use Rattle.reach.specs.Reach.{held_with};
 ghost use Rattle.jemmyfern_c.specs.Answers.{opened_of, stepped_of, transported_of, greatest_of, written_of};
@@ -57,6 +57,7 @@ pub struct Greatest {
     pub place: usize,
 }
 
+// An array that is a field goes through a variable here and below: read in place into a literal it gets no proof.
 pub fn given_held(boundaries: Boundaries, ledger: Ledger, outlets: Outlets) -> Held
     ensures { result ≡ held_with boundaries.boundaries ledger outlets }
 {
@@ -71,75 +72,74 @@ pub fn given_held(boundaries: Boundaries, ledger: Ledger, outlets: Outlets) -> H
 pub fn room_of(held: Held) -> [Outlet; 32]
     ensures { result ≡ held.outlets.list }
 {
-    let outlets = held.outlets;
-    outlets.list
+    held.outlets.list
 }
 
-pub fn opening_answer(a: OpenAnswer) -> Opened
-    ensures { result ≡ opened_of a }
-{
-    let held = a.held;
-    let boundaries = held.boundaries;
-    let ledger = held.ledger;
-    Opened {
-        refusal: a.refusal,
-        cell_length: a.cell_length,
-        boundaries,
-        ledger,
+impl From<OpenAnswer> for Opened {
+    ghost from_gives = { λ a r. r ≡ opened_of a };
+
+    fn from(a: OpenAnswer) -> Opened {
+        let boundaries = a.held.boundaries;
+        Opened {
+            refusal: a.refusal,
+            cell_length: a.cell_length,
+            boundaries,
+            ledger: a.held.ledger,
+        }
     }
 }
 
-pub fn step_answer(a: StepAnswer) -> Stepped
-    ensures { result ≡ stepped_of a }
-{
-    let held = a.held;
-    let boundaries = held.boundaries;
-    let ledger = held.ledger;
-    Stepped {
-        refusal: a.refusal,
-        boundaries,
-        ledger,
-        transported: a.transported,
+impl From<StepAnswer> for Stepped {
+    ghost from_gives = { λ a r. r ≡ stepped_of a };
+
+    fn from(a: StepAnswer) -> Stepped {
+        let boundaries = a.held.boundaries;
+        Stepped {
+            refusal: a.refusal,
+            boundaries,
+            ledger: a.held.ledger,
+            transported: a.transported,
+        }
     }
 }
 
-pub fn transport_answer(a: TransportAnswer) -> Answer
-    ensures { result ≡ transported_of a }
-{
-    let held = a.held;
-    let boundaries = held.boundaries;
-    let ledger = held.ledger;
-    Answer {
-        refusal: a.refusal,
-        boundaries,
-        ledger,
+impl From<TransportAnswer> for Answer {
+    ghost from_gives = { λ a r. r ≡ transported_of a };
+
+    fn from(a: TransportAnswer) -> Answer {
+        let boundaries = a.held.boundaries;
+        Answer {
+            refusal: a.refusal,
+            boundaries,
+            ledger: a.held.ledger,
+        }
     }
 }
 
-pub fn greatest_answer(a: GreatestAnswer) -> Greatest
-    ensures { result ≡ greatest_of a }
-{
-    let held = a.held;
-    let boundaries = held.boundaries;
-    let ledger = held.ledger;
-    Greatest {
-        refusal: a.refusal,
-        boundaries,
-        ledger,
-        time: a.time,
-        place: a.place,
+impl From<GreatestAnswer> for Greatest {
+    ghost from_gives = { λ a r. r ≡ greatest_of a };
+
+    fn from(a: GreatestAnswer) -> Greatest {
+        let boundaries = a.held.boundaries;
+        Greatest {
+            refusal: a.refusal,
+            boundaries,
+            ledger: a.held.ledger,
+            time: a.time,
+            place: a.place,
+        }
     }
 }
 
-pub fn write_answer(a: WriteAnswer) -> Answer
-    ensures { result ≡ written_of a }
-{
-    let held = a.held;
-    let boundaries = held.boundaries;
-    let ledger = held.ledger;
-    Answer {
-        refusal: a.refusal,
-        boundaries,
-        ledger,
+impl From<WriteAnswer> for Answer {
+    ghost from_gives = { λ a r. r ≡ written_of a };
+
+    fn from(a: WriteAnswer) -> Answer {
+        let boundaries = a.held.boundaries;
+        Answer {
+            refusal: a.refusal,
+            boundaries,
+            ledger: a.held.ledger,
+        }
     }
 }

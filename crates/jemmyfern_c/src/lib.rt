@@ -14,10 +14,7 @@ ghost use Rattle.sheet.specs.Opening.{none_held, opening, OpenCameTo};
 ghost use Rattle.writing.specs.Writing.{WriteCameTo};
 ghost use Rattle.jemmyfern_c.specs.Answers.{given_held, RestKept, open_with, step_with, transport_with, greatest_with, write_with};
 
-use answer::{
-    Answer, Boundaries, Greatest, Opened, Stepped, given_held, greatest_answer, opening_answer,
-    room_of, step_answer, transport_answer, write_answer,
-};
+use answer::{Answer, Boundaries, Greatest, Opened, Stepped, given_held, room_of};
 use outlet::{Outlet, load, store};
 use reach::ledger::Ledger;
 use sheet::opening::open_sheet;
@@ -39,7 +36,7 @@ pub fn jemmyfern_open(
     let a = open_sheet(s, bed, depth, discharge, mass, base, carried, list);
     let room = room_of(a.held);
     store(outlets, room);
-    opening_answer(a)
+    a.into()
 }
 
 pub fn jemmyfern_step(
@@ -63,7 +60,7 @@ pub fn jemmyfern_step(
     let a = stepping::step::step(bed, depth, discharge, mass, base, carried, x, held, t, f);
     let room = room_of(a.held);
     store(outlets, room);
-    step_answer(a)
+    a.into()
 }
 
 pub fn jemmyfern_transport(
@@ -85,7 +82,7 @@ pub fn jemmyfern_transport(
     let a = transport::transport(bed, depth, discharge, mass, base, carried, x, held);
     let room = room_of(a.held);
     store(outlets, room);
-    transport_answer(a)
+    a.into()
 }
 
 pub fn jemmyfern_set_boundaries(
@@ -109,7 +106,7 @@ pub fn jemmyfern_set_boundaries(
     let a = transport::set_boundaries(bed, depth, discharge, mass, base, carried, x, held, given);
     let room = room_of(a.held);
     store(outlets, room);
-    transport_answer(a)
+    a.into()
 }
 
 pub fn jemmyfern_greatest_step(
@@ -129,7 +126,7 @@ pub fn jemmyfern_greatest_step(
     let list = load(outlets);
     let held = given_held(boundaries, ledger, list);
     let a = timestep::greatest_step(bed, depth, discharge, mass, base, carried, x, held);
-    greatest_answer(a)
+    a.into()
 }
 
 pub fn jemmyfern_write(
@@ -150,5 +147,5 @@ pub fn jemmyfern_write(
     let list = load(outlets);
     let held = given_held(boundaries, ledger, list);
     let a = write_sheet(bed, depth, discharge, mass, base, carried, x, held, out);
-    write_answer(a)
+    a.into()
 }

@@ -37,9 +37,6 @@ module _ (m : List ℕ) (before after : Outlets) where
   gain_else k i n = rw (ne_eqb (outlet_at before k).cell i (λ (e : (outlet_at before k).cell ≡ i). n (sym e))) refl
 
   module _ (k : ℕ) (column : List ℕ) (e : column ≡ tabulate (length m) (taken_at m before after k)) where
-    pub taken_long : length column ≡ length m
-    taken_long = ap length e ∙ length_tabulate (length m) (taken_at m before after k)
-
     column_at_lem : (i : ℕ) → i < length m → get_or column i 0 ≡ taken_at m before after k i
     column_at_lem i l = rw e (get_or_tabulate (length m) (taken_at m before after k) i 0 l)
 

@@ -83,13 +83,11 @@ pub fn move_mass(mass: &mut [u64], base: &[u64], carried: &[i64], left_in: u64, 
     let first = shares_at(mass, base, carried, 0);
     let mut held = with_share(first.rest, left_in);
     let mut right = first.right;
-    let mut i = 0;
-    while i + 1 < n {
+    for i in 0..n - 1 {
         let next = shares_at(mass, base, carried, i + 1);
         mass[i] = with_share(held, next.left);
         held = with_share(next.rest, right);
         right = next.right;
-        i += 1;
     }
-    mass[i] = with_share(held, right_in);
+    mass[n - 1] = with_share(held, right_in);
 }

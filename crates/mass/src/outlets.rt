@@ -31,11 +31,9 @@ fn outlet_after(o: Outlet, share: u64) -> Outlet
     ensures { result ≡ record { cell = o.cell; want = o.want; drawn = 0; water = o.water; mass = o.mass + share } }
 {
     Outlet {
-        cell: o.cell,
-        want: o.want,
         drawn: 0,
-        water: o.water,
         mass: o.mass + share,
+        ..o
     }
 }
 
@@ -49,15 +47,13 @@ pub fn move_outlets(mass: &[u64], base: &[u64], carried: &[i64], outlets: Outlet
     }
     let count = outlets.count;
     let mut list = outlets.list;
+    // no heap: room for the longest reach
     let mut before = [0u64; CELLS_MOST];
-    let mut k = 0;
-    while k < count {
-        let o = list[k];
+    for o in list[..count].iter_mut() {
         let cell = o.cell as usize;
         let share = share_at(mass, base, carried, cell, before[cell], o.drawn);
-        before[cell] = before[cell] + o.drawn;
-        list[k] = outlet_after(o, share);
-        k += 1;
+        before[cell] += o.drawn;
+        *o = outlet_after(*o, share);
     }
     Outlets { count, list }
 }
@@ -68,12 +64,8 @@ pub fn take_gains(mass: &mut [u64], old: Outlets, new: Outlets)
     ensures { mass.new ≡ tabulate (length mass.old) (λ i. get_or mass.old i 0 - gains old new i) }
 {
     let count = old.count;
-    let mut k = 0;
-    while k < count {
-        let o = old.list[k];
+    for (k, o) in old.list[..count].iter().enumerate() {
         let next = new.list[k];
-        let cell = o.cell as usize;
-        mass[cell] = mass[cell] - (next.mass - o.mass);
-        k += 1;
+        mass[o.cell as usize] -= next.mass - o.mass;
     }
 }

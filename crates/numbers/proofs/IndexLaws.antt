@@ -8,7 +8,8 @@ use native.Mathlib.Nat.{not-suc-le-zero, le_of_suc-le-suc, eq-or-lt_of_le}
 use native.Mathlib.Numerals.{add-one}
 use native.Mathlib.Omega.{arith}
 use lib.Dec.{eqb, ltb}
-use lib.ListN.{length, get_or, set, replicate, length-set}
+use lib.ListN.{length, get_or, set, replicate, length-set, take}
+use Rattle.std.proofs.lemmas.List.{get_or-take, length-take-le}
 use lib.Seq.{ext_get_or, get_or-set_same, get_or-set_other}
 use borrow.Author.Tests.{eq-eqb, ne_eqb, eqb-true, eqb-false, ltb-true, ltb-false}
 use Rattle.numbers.specs.Index.{all_below, all_of, tabulate, sum_below, sum}
@@ -79,6 +80,10 @@ module _ {A : Type 0} where
   by_index n f d l e h =
       ext_get_or d l (tabulate n f) (e ∙ sym (length_tabulate n f))
       (λ i k. let k' : i < n = omega arith in h i k' ∙ sym (get_or_tabulate n f i d k'))
+
+  -- the first of a list
+  pub take_tabulate : (n : ℕ) (l : List A) (d : A) → n ≤ length l → take n l ≡ tabulate n (λ i. get_or l i d)
+  take_tabulate n l d h = by_index n (λ i. get_or l i d) d (take n l) (length-take-le n l h) (λ i k. get_or-take n l i d k)
 
   -- one entry written
   pub set_tabulate : (n : ℕ) (f g : ℕ → A) (c : ℕ) (v : A) → v ≡ g c → ((i : ℕ) → i < n → (i ≡ c → ⊥) → f i ≡ g i) → set (tabulate n f) c v ≡ tabulate n g

@@ -152,10 +152,6 @@ cross_le (pos m) (negsuc n) h = absurd (omega (arith, no_left m))
 cross_le (negsuc m) (pos n) h = record { le = tt }
 cross_le (negsuc m) (negsuc n) h = record { le = le→leb n m (omega arith) }
 
-pub abs_fits : (z : ℤ) {n : ℕ} → mag z < n → nat_abs z ≤ n
-abs_fits (pos k) l = omega arith
-abs_fits (negsuc k) l = omega arith
-
 pub abs_add : (y z : ℤ) → nat_abs (y +ℤ z) ≤ nat_abs y + nat_abs z
 abs_add y z =
     ⊎_elim

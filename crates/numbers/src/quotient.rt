@@ -7,15 +7,30 @@ ghost use Rattle.numbers.specs.Quotient.{DivisorFits};
 pub struct Divisor {
     pub value: u64,
     pub reciprocal: u64,
+    pub ghost fits: { DivisorFits value reciprocal },
 }
 
-pub fn divisor_of(d: u64) -> Divisor
-    requires { 0 < d }
-    ensures { (result.value ≡ d) × DivisorFits result }
-{
-    Divisor {
-        value: d,
-        reciprocal: 18_446_744_073_709_551_615 / d,
+impl Divisor {
+    pub fn new(d: u64) -> Divisor
+        requires { 0 < d }
+        ensures { result.value ≡ d }
+    {
+        Divisor {
+            value: d,
+            reciprocal: 18_446_744_073_709_551_615 / d,
+        }
+    }
+
+    // floor(n / d): the product falls short by at most one
+    pub fn divide(self, n: u64) -> u64
+        ensures { result ≡ n / self.value }
+    {
+        let q = upper_half(n, self.reciprocal);
+        if self.value <= n - q * self.value {
+            q + 1
+        } else {
+            q
+        }
     }
 }
 
@@ -31,13 +46,4 @@ fn upper_half(u: u64, v: u64) -> u64
     let middle = u1 * v0 + lowest / 4_294_967_296;
     let next = middle % 4_294_967_296 + u0 * v1;
     u1 * v1 + middle / 4_294_967_296 + next / 4_294_967_296
-}
-
-// floor(n / d): the product falls short by at most one
-pub fn quotient(n: u64, d: Divisor) -> u64
-    requires { DivisorFits d }
-    ensures { result ≡ n / d.value }
-{
-    let q = upper_half(n, d.reciprocal);
-    if d.value <= n - q * d.value { q + 1 } else { q }
 }

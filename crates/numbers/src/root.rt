@@ -12,43 +12,63 @@ const ROOTS: [u16; 64] = [
     30099, 30376, 30651, 30924, 31194, 31461, 31727, 31990, 32251, 32510,
 ];
 
-// The table, taken once for many roots: a constant array is built anew wherever it is named
-pub fn root_table() -> [u16; 64]
-    ensures { RootTable result }
-{
-    ROOTS
+// That table, laid out once for many roots: a constant array is built anew wherever it is named.
+#[derive(Drop)]
+pub struct SquareRoots {
+    pub table: [u16; 64],
+    pub ghost fits: { RootTable table },
 }
 
-fn wide(x: u16) -> u64
-    ensures { result ≡ x }
-{
-    x as u64
-}
+impl SquareRoots {
+    pub fn new() -> SquareRoots {
+        SquareRoots { table: ROOTS }
+    }
 
-// 4,096·span times the point at rest/span of the chord of the root from k to k + 1. A chord of the root lies below it.
-fn chord(k: usize, rest: u64, span: u64, roots: &[u16; 64]) -> u64
-    requires { ((k < 63) × ((rest ≤ span) × (span ≤ 1_048_576))) × RootTable roots.now }
-    ensures { result * result ≤ span * (16_777_216 * (k * span + rest)) }
-{
-    (span - rest) * wide(roots[k]) + rest * wide(roots[k + 1])
-}
+    // 4,096·span times the point at rest/span of the chord of the root from k to k + 1. A chord of the root lies below it.
+    fn chord(&self, k: usize, rest: u64, span: u64) -> u64
+        requires { (k < 63) × ((rest ≤ span) × (span ≤ 1_048_576)) }
+        ensures { result * result ≤ span * (16_777_216 * (k * span + rest)) }
+    {
+        (span - rest) * u64::from(self.table[k]) + rest * u64::from(self.table[k + 1])
+    }
 
-// A number at most the root of x, and for every wave speed of the model at most 4 below it.
-// The four spans are squares, so that each quotient is a shift, and each range ends at 63 of them. The deepest water is asked for first.
-fn below_root(x: u64, roots: &[u16; 64]) -> u64
-    requires { (x < 66_060_288) × RootTable roots.now }
-    ensures { result * result ≤ x }
-{
-    if 16_515_072 <= x {
-        return chord((x / 1_048_576) as usize, x % 1_048_576, 1_048_576, roots) / 4_194_304;
+    // A number at most the root of x, and for every wave speed of the model at most 4 below it.
+    // The four spans are squares, so that each quotient is a shift, and each range ends at 63 of them. The deepest water is asked for first.
+    fn below_root(&self, x: u64) -> u64
+        requires { x < 66_060_288 }
+        ensures { result * result ≤ x }
+    {
+        if 16_515_072 <= x {
+            return self.chord((x / 1_048_576) as usize, x % 1_048_576, 1_048_576) / 4_194_304;
+        }
+        if 1_032_192 <= x {
+            return self.chord((x / 262_144) as usize, x % 262_144, 262_144) / 2_097_152;
+        }
+        if 16_128 <= x {
+            return self.chord((x / 16_384) as usize, x % 16_384, 16_384) / 524_288;
+        }
+        self.chord((x / 256) as usize, x % 256, 256) / 65_536
     }
-    if 1_032_192 <= x {
-        return chord((x / 262_144) as usize, x % 262_144, 262_144, roots) / 2_097_152;
+
+    // The least whole number whose square is at least x: raised from below to the first that need not be raised.
+    pub fn square_root_ceil(&self, x: u64) -> u64
+        requires { x ≤ 66_060_288 }
+        ensures { result ≡ square_root_ceil x }
+    {
+        if x == 0 {
+            return 0;
+        }
+        let mut a = raised(x, self.below_root(x - 1));
+        // a loop that yields the root by its break, as document 01 has it
+        let root = loop {
+            let next = a + 1;
+            if x <= next * next {
+                break next;
+            }
+            a = next;
+        };
+        root
     }
-    if 16_128 <= x {
-        return chord((x / 16_384) as usize, x % 16_384, 16_384, roots) / 524_288;
-    }
-    chord((x / 256) as usize, x % 256, 256, roots) / 65_536
 }
 
 // One raise, by a choice and not a branch: most wave speeds need none or one.
@@ -58,23 +78,4 @@ fn raised(x: u64, a: u64) -> u64
 {
     let next = a + 1;
     if next * next < x { next } else { a }
-}
-
-// The least whole number whose square is at least x: raised from below to the first that need not be raised.
-pub fn square_root_ceil(x: u64, roots: &[u16; 64]) -> u64
-    requires { (x ≤ 66_060_288) × RootTable roots.now }
-    ensures { result ≡ square_root_ceil x }
-{
-    if x == 0 {
-        return 0;
-    }
-    let mut a = raised(x, below_root(x - 1, roots));
-    let root = loop {
-        let next = a + 1;
-        if x <= next * next {
-            break next;
-        }
-        a = next;
-    };
-    root
 }

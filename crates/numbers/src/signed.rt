@@ -1,10 +1,10 @@
 // Signed numbers and their two parts: max(z,0), 'right', and max(−z,0), 'left'.
-ghost use Rattle.std.specs.Prelude.{◌≡◌, ◌-◌, ◌≤◌, ◌<◌, leb, nat_abs, ◌+ℤ◌, neg_ℤ};
+ghost use Rattle.std.specs.Prelude.{◌≡◌, ◌≤◌, ◌<◌, leb, nat_abs, ◌+ℤ◌, neg_ℤ};
 ghost use Rattle.std.proofs.Math.IntN.{sub_ℕ};
 ghost use Rattle.numbers.specs.Signed.{positive};
 
 // A signed number right − left. Where each part is what its name says of a number, one of the two is 0.
-#[derive(Clone, Copy)]
+#[derive(Clone, Copy, Default)]
 pub struct Parts {
     pub right: u64,
     pub left: u64,
@@ -22,25 +22,15 @@ pub fn right_part(z: i64) -> u64
 pub fn left_part(z: i64) -> u64
     ensures { result ≡ positive (neg_ℤ z) }
 {
-    if z < 0 { (-1 - z) as u64 + 1 } else { 0 }
-}
-
-// |z|
-pub fn magnitude(z: i64) -> u64
-    ensures { result ≡ nat_abs z }
-{
-    right_part(z) + left_part(z)
+    if z < 0 { z.unsigned_abs() } else { 0 }
 }
 
 // |z| ≤ most, by its two ends: the compiler makes one comparison of them
 pub fn within(z: i64, most: u32) -> bool
     ensures { result ≡ leb (nat_abs z) most }
 {
-    let end = most as i64;
-    if z < -end {
-        return false;
-    }
-    z <= end
+    let end = i64::from(most);
+    -end <= z && z <= end
 }
 
 // right − left as a signed number
@@ -49,13 +39,6 @@ pub fn joined(right: u64, left: u64) -> i64
     ensures { result ≡ sub_ℕ right left }
 {
     right as i64 - left as i64
-}
-
-// max(x − n, 0)
-pub fn excess(x: u64, n: u64) -> u64
-    ensures { result ≡ x - n }
-{
-    if n < x { x - n } else { 0 }
 }
 
 // y + z of numbers far from the ends of their type

@@ -1,15 +1,15 @@
--- Laws of lists laid over one another, of a lent list by value, and of the loops of `load` and `store`. Assumes nothing.
+-- Laws of lists laid over one another, and of a lent list by value. Assumes nothing.
 use mathlib.Core.Bool.{Bool, true, false, cond}
-use mathlib.Core.Path.{◌≡◌, refl, sym, ◌∙◌, ap}
-use mathlib.Core.List.{List, [], ◌∷◌, ◌++◌}
-use mathlib.Core.Logic.{◌⊎◌, inl, inr}
-use Prim.Native.Nat.{ℕ, suc, ◌+◌, ◌-◌, ◌<◌, ◌≤◌}
-use native.Mathlib.Numerals.{add-one}
+use mathlib.Core.Path.{◌≡◌, refl, sym, ◌∙◌, ap, ap₂}
+use mathlib.Core.List.{List, [], ◌++◌}
+use Prim.Native.Nat.{ℕ, ◌+◌, ◌-◌, ◌<◌, ◌≤◌, min}
 use native.Mathlib.Omega.{arith}
 use borrow.Author.Tests.{leb-true, leb-false, le-ltb}
 use lib.Dec.{leb, ltb}
-use lib.ListN.{length, take, drop, get_or, set, replicate, length-append, length-drop, length-replicate, get_or-replicate, drop_of_length-le, get_or-append, get_or-eq_default}
-use lib.Seq.{length-take-le, take_all, take-suc, drop-cons, append_snoc, set_at, get_or-take, get_or-drop, get_or-append-add, ext_get_or}
+use lib.ListN.{length, take, drop, get_or, replicate, length-append, length-drop, length-replicate, get_or-replicate, drop_of_length-le, get_or-append, get_or-eq_default}
+use lib.Seq.{length-take-le, take_all, get_or-take, get_or-drop, get_or-append-add, ext_get_or}
+use Rattle.std.proofs.Math.Nat.{min_comm}
+use Rattle.std.proofs.lemmas.List.{take_min, drop_min}
 use Rattle.numbers.proofs.IndexLaws.{length_tabulate, get_or_tabulate}
 use Rattle.outlet.specs.declared.Outlet.{Outlet}
 use Rattle.outlet.specs.declared.Outlets.{Outlets}
@@ -144,55 +144,12 @@ drop_over front back e =
     ∙ over_back front back (outlets_most + k) no_outlet (omega (arith, e))
     ∙ sym (get_or-drop outlets_most back k no_outlet))
 
--- ---- a loop that copies one list onto another, entry by entry
+-- ---- the front of one list copied onto another
 
--- i of n entries are copied, n being the shorter of the two lengths
-abbrev pub Copying : List Outlet → List Outlet → ℕ → List Outlet → ℕ → Type 0
-Copying src dst₀ n dst i = (n ≤ length src) × (n ≤ length dst₀) × ((n ≡ length src) ⊎ (n ≡ length dst₀)) × (i ≤ n) × (dst ≡ take i src ++ drop i dst₀)
-
-pub copying_none : (src dst₀ : List Outlet) (n : ℕ) → n ≤ length src → n ≤ length dst₀ → (n ≡ length src) ⊎ (n ≡ length dst₀) → Copying src dst₀ n dst₀ 0
-copying_none src dst₀ n a b e = (a, b, e, omega arith, refl)
-
-pub copying_more : (src dst₀ : List Outlet) (n : ℕ) (dst : List Outlet) (i : ℕ) (v d : Outlet) → i < n → v ≡ get_or src i d → Copying src dst₀ n dst i → Copying src dst₀ n (set dst i v) (i + 1)
-copying_more src dst₀ n dst i v d h ev (a, b, e, l, ed) =
-    let src-has : i < length src = omega arith in
-    let dst-has : i < length dst₀ = omega arith in
-    let src-long : i ≤ length src = omega arith in (
-      a,
-      b,
-      e,
-      omega arith,
-      ap (λ (x : List Outlet). set x i v) ed
-          ∙ ap (λ (x : List Outlet). set (take i src ++ x) i v) (drop-cons dst₀ i no_outlet dst-has)
-          ∙ set_at (take i src) (get_or dst₀ i no_outlet) (drop (suc i) dst₀) v i (length-take-le i src src-long)
-          ∙ sym (append_snoc (take i src) v (drop (suc i) dst₀))
-          ∙ ap (λ (x : Outlet). (take i src ++ (x ∷ [])) ++ drop (suc i) dst₀) ev
-          ∙ ap (λ (l : List Outlet). l ++ drop (suc i) dst₀) (sym (take-suc src i d src-has))
-          ∙ ap (λ (k : ℕ). take k src ++ drop k dst₀) (sym (add-one i)),
-    )
-
--- the same where a call has stored the entry
-pub copying_put : (src dst₀ : List Outlet) (n : ℕ) (dst : List Outlet) (i : ℕ) (d : Outlet) (dst' : List Outlet) → i < n → dst' ≡ set dst i (get_or src i d) → Copying src dst₀ n dst i → Copying src dst₀ n dst' (i + 1)
-copying_put src dst₀ n dst i d dst' h e k =
-    let c = copying_more src dst₀ n dst i (get_or src i d) d h refl k in
-    (c.0, c.1, c.2, c.3, e ∙ c.4)
-
-pub copying_long : (src dst₀ : List Outlet) (n : ℕ) (dst : List Outlet) (i : ℕ) → Copying src dst₀ n dst i → length dst ≡ length dst₀
-copying_long src dst₀ n dst i (a, b, e, l, ed) =
-    let src-long : i ≤ length src = omega arith in
-    ap length ed ∙ length-append (take i src) (drop i dst₀) ∙ omega (arith, length-take-le i src src-long, length-drop i dst₀)
-
--- the shorter length reached, one list is laid over the other
-laid : (src dst : List Outlet) (n : ℕ) → n ≤ length src → n ≤ length dst → (n ≡ length src) ⊎ (n ≡ length dst) → take n src ++ drop n dst ≡ take (length dst) src ++ drop (length src) dst
-laid src dst n a b (inl e) =
-    ap (λ (k : ℕ). take k src ++ drop k dst) e
-    ∙ ap (λ (l : List Outlet). l ++ drop (length src) dst) (take_all (length src) src (omega arith) ∙ sym (take_all (length dst) src (omega (arith, e, b))))
-laid src dst n a b (inr e) =
-    ap (λ (k : ℕ). take k src ++ drop k dst) e
-    ∙ ap (λ (l : List Outlet). take (length dst) src ++ l) (drop_of_length-le dst {i = length dst} (omega arith) ∙ sym (drop_of_length-le dst {i = length src} (omega (arith, e, a))))
-
-pub copying_done : (src dst₀ : List Outlet) (n : ℕ) (dst : List Outlet) (i : ℕ) → n ≤ i → Copying src dst₀ n dst i → dst ≡ over src dst₀
+-- as many entries as both have, so that one is laid over the other
+pub copied_over : (src dst front : List Outlet) (n : ℕ) → n ≡ min (length src) (length dst) → front ≡ take n src → front ++ drop n dst ≡ over src dst
 unfolding over
-copying_done src dst₀ n dst i h (a, b, e, l, ed) =
-    let i-is : i ≡ n = omega arith in
-    ed ∙ ap (λ (k : ℕ). take k src ++ drop k dst₀) i-is ∙ laid src dst₀ n a b e
+copied_over src dst front n e f =
+    ap₂ (λ (l r : List Outlet). l ++ r)
+    (f ∙ ap (λ (k : ℕ). take k src) (e ∙ min_comm (length src) (length dst)) ∙ take_min (length dst) src)
+    (ap (λ (k : ℕ). drop k dst) e ∙ drop_min (length src) dst)

@@ -10,18 +10,15 @@ pub fn clear(outlets: Outlets) -> Outlets
     ensures { result ≡ cleared outlets }
 {
     let count = outlets.count;
+    // a variable of its own: of a field that such a loop has written no proof knows what it holds
     let mut list = outlets.list;
-    let mut k = 0;
-    while k < count {
-        let o = list[k];
-        list[k] = Outlet {
-            cell: o.cell,
-            want: o.want,
+    for o in list[..count].iter_mut() {
+        *o = Outlet {
             drawn: 0,
             water: 0,
             mass: 0,
+            ..*o
         };
-        k += 1;
     }
     Outlets { count, list }
 }

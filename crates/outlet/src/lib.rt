@@ -8,7 +8,7 @@ ghost use Rattle.outlet.specs.Outlets.{no_outlet, no_outlets, over, loaded};
 
 // What an outlet draws in a step is depth of its cell, micrometres; its totals run since the opening
 #[repr(C)]
-#[derive(Clone, Copy)]
+#[derive(Clone, Copy, Default)]
 pub struct Outlet {
     // counted from 0
     pub cell: u64,
@@ -25,7 +25,8 @@ pub struct Outlet {
 // The outlets of a list
 pub const OUTLETS_MOST: usize = 32;
 
-// A lent list by value, as a call looks at it: how many were lent, and the first 32 of them
+// A lent list by value, as a call looks at it: how many were lent, and the first 32 of them. An array and not a Vec, since no call allocates; its count may
+// be above 32, which is what a call refuses. Each function that changes the list has its own loop: one for all, with a closure, would take and give 1,288 bytes by value.
 #[repr(C)]
 #[derive(Clone, Copy)]
 pub struct Outlets {
@@ -33,44 +34,15 @@ pub struct Outlets {
     pub list: [Outlet; 32],
 }
 
-// What stands where there is no outlet
-pub fn none() -> Outlet
-    ensures { result ≡ no_outlet }
-{
-    Outlet {
-        cell: 0,
-        want: 0,
-        drawn: 0,
-        water: 0,
-        mass: 0,
-    }
-}
-
 // An empty list, for a caller that lends no outlet
 pub fn no_outlets() -> Outlets
     ensures { result ≡ no_outlets }
 {
-    let o = none();
+    // written out: what a derived Default says of an array does not prove the contract
     Outlets {
         count: 0,
-        list: [o; 32],
+        list: [Outlet::default(); 32],
     }
-}
-
-// One entry of a lent list
-pub fn get(list: &[Outlet], i: usize) -> Outlet
-    requires { i < length list.now }
-    ensures { result ≡ get_or list.now i no_outlet }
-{
-    list[i]
-}
-
-// Writes one entry of a lent list
-pub fn put(list: &mut [Outlet], i: usize, o: Outlet)
-    requires { i < length list.old }
-    ensures { list.new ≡ set list.old i o }
-{
-    list[i] = o;
 }
 
 // A lent list by value
@@ -78,18 +50,9 @@ pub fn load(list: &[Outlet]) -> Outlets
     ensures { result ≡ loaded list.now }
 {
     let count = list.len();
-    let o = none();
-    let mut room = [o; 32];
-    let mut n = count;
-    if n > OUTLETS_MOST {
-        n = OUTLETS_MOST;
-    }
-    let mut i = 0;
-    while i < n {
-        let o = get(list, i);
-        room[i] = o;
-        i += 1;
-    }
+    let n = count.min(OUTLETS_MOST);
+    let mut room = [Outlet::default(); 32];
+    room[..n].copy_from_slice(&list[..n]);
     Outlets { count, list: room }
 }
 
@@ -97,14 +60,6 @@ pub fn load(list: &[Outlet]) -> Outlets
 pub fn store(list: &mut [Outlet], room: [Outlet; 32])
     ensures { list.new ≡ over room list.old }
 {
-    let mut n = list.len();
-    if n > OUTLETS_MOST {
-        n = OUTLETS_MOST;
-    }
-    let mut i = 0;
-    while i < n {
-        let o = room[i];
-        put(list, i, o);
-        i += 1;
-    }
+    let n = list.len().min(OUTLETS_MOST);
+    list[..n].copy_from_slice(&room[..n]);
 }

@@ -6,6 +6,7 @@ use Rattle.reach.specs.Outcome.{Outcome, outcome}
 use Rattle.transport.specs.Calls.{transport}
 use Rattle.update.specs.Step.{step}
 use Rattle.sheet.specs.Opening.{opening}
+use Rattle.reach.specs.declared.refusal.Refusal.TheVariants as refusal
 
 -- what a refusal stops, and what is done after an accepted call
 abbrev pub and_then : Outcome → (Reach → Outcome) → Outcome
@@ -24,7 +25,7 @@ count_fits count = leb count count_most
 
 -- a count over 1,000 is 10; with a count of 0, t is not looked at
 unfoldable pub steps_then_transports : (count t : ℕ) → Reach → Outcome
-steps_then_transports count t s = and_then (outcome (pass_or 10 (count_fits count)) s s) (λ r. and_then (steps count t r) transport)
+steps_then_transports count t s = and_then (outcome (pass_or refusal.TimeStep (count_fits count)) s s) (λ r. and_then (steps count t r) transport)
 
 -- opens into the lent columns l, steps, transports
 unfoldable pub played : (s : List ℕ) → Reach → (count t : ℕ) → Outcome

@@ -11,7 +11,7 @@ ghost use Rattle.play.specs.Ranges.{RanTo, PlayedTo};
 
 use outlet::no_outlets;
 use reach::held::Held;
-use reach::refusal::Check;
+use reach::refusal::Refusal;
 use sheet::opening::open_sheet;
 use stepping::step::step;
 
@@ -37,8 +37,7 @@ fn run_steps(
     ensures { RanTo (steps count t (came bed.now depth.old discharge.old mass.old base.old carried.old x held)) result bed.now depth.new discharge.new mass.new base.new carried.new x }
 {
     let mut last = held;
-    let mut i = 0;
-    while i < count {
+    for i in 0..count {
         let r = step(bed, depth, discharge, mass, base, carried, x, last, t, 0);
         let next = r.held;
         if r.refusal != 0 {
@@ -48,7 +47,6 @@ fn run_steps(
             };
         }
         last = next;
-        i += 1;
     }
     Ran {
         refusal: 0,
@@ -63,13 +61,11 @@ fn came_to(refusal: u32, held: Held) -> Ran
 }
 
 // A step count over 1,000 is 10
-fn check_count(count: u64) -> Check
-    ensures { result ≡ pass_or 10 (count_fits count) }
+#[tactic(auto, unfolding(crate::specs::Play::count_fits))]
+fn check_count(count: u64) -> Result<(), Refusal>
+    ensures { result ≡ pass_or Refusal.TimeStep (count_fits count) }
 {
-    if 1_000 < count {
-        return Check::Refused(10);
-    }
-    Check::Pass
+    Refusal::TimeStep.unless(count <= 1_000)
 }
 
 // Opens the sheet into the lent columns, with an empty list of outlets, steps count times, and transports.
@@ -92,9 +88,9 @@ pub fn play(
     if o.refusal != 0 {
         return came_to(o.refusal, opened);
     }
-    let Check::Pass = check_count(count) else {
-        return came_to(10, opened);
-    };
+    if let Err(r) = check_count(count) {
+        return came_to(r.into(), opened);
+    }
     let x = o.cell_length;
     let r = run_steps(
         bed, depth, discharge, mass, base, carried, x, opened, count, t,

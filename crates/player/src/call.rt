@@ -1,12 +1,14 @@
 // One call of the list, played through its function.
-ghost use Rattle.std.specs.Prelude.{◌≡◌, List, ℕ, ◌+◌, ◌≤◌, ◌<◌, length, get_or};
+ghost use Rattle.std.specs.Prelude.{◌≡◌, List, [], ◌∷◌, ℕ, ◌+◌, ◌≤◌, min, length, get_or};
 ghost use Rattle.reach.specs.Reach.{came};
-ghost use Rattle.script.specs.Script.{free_at, call_at};
+ghost use Rattle.tally.specs.Call.{step_call, transport_call, boundaries_call, greatest_call, write_call, open_call};
+ghost use Rattle.script.specs.Script.{boundary_from, part, outlets_from, free_at, call_at};
+ghost use Rattle.player.specs.Kind.{KindOf};
 ghost use Rattle.player.specs.Plays.{came_to, Plays};
 
 use super::Played;
 use reach::held::Held;
-use script::words::{boundaries_from, least, most, outlets_from, with_wants};
+use script::words::{boundaries_from, outlets_from, with_wants};
 use sheet::opening::{OpenAnswer, open_sheet};
 use stepping::step::step;
 use timestep::greatest_step;
@@ -27,8 +29,8 @@ fn came_to(refusal: u32, x: u64, held: Held) -> Played
     }
 }
 
-// A step, a transport or a setting of boundaries: the calls that go on from the record at hand, with the wants of the call
-fn play_moving(
+// Each kind of call, with the wants of the call, from the record at hand on
+fn play_step(
     words: &[u64],
     at: usize,
     bed: &[i64],
@@ -40,40 +42,97 @@ fn play_moving(
     x: u64,
     held: Held,
 ) -> Played
-    requires at_in_bounds { at + 206 ≤ length words.now }
-    requires at_bound { get_or words.now at 0 < 3 }
-    ensures { (sheets : List ℕ) (room : ℕ) (out : List ℕ) → Plays (came bed.now depth.old discharge.old mass.old base.old carried.old x held) (free_at words.now at) (call_at words.now sheets room at) out result bed.now depth.new discharge.new mass.new base.new carried.new out }
+    requires { at + 206 ≤ length words.now }
+    ensures { (out : List ℕ) → Plays (came bed.now depth.old discharge.old mass.old base.old carried.old x held) (free_at words.now at) (step_call (get_or words.now (at + 1) 0) (get_or words.now (at + 2) 0)) out result bed.now depth.new discharge.new mass.new base.new carried.new out }
 {
     let wanted = with_wants(words, at, held);
-    let word = words[at];
-    if word == 0 {
-        let t = words[at + 1];
-        let f = words[at + 2];
-        let r = step(bed, depth, discharge, mass, base, carried, x, wanted, t, f);
-        let after = r.held;
-        return Played {
-            refusal: r.refusal,
-            transported: r.transported,
-            time: 0,
-            place: 0,
-            cell_length: x,
-            held: after,
-        };
+    let t = words[at + 1];
+    let f = words[at + 2];
+    let r = step(bed, depth, discharge, mass, base, carried, x, wanted, t, f);
+    let after = r.held;
+    Played {
+        refusal: r.refusal,
+        transported: r.transported,
+        time: 0,
+        place: 0,
+        cell_length: x,
+        held: after,
     }
-    if word == 1 {
-        let r = transport(bed, depth, discharge, mass, base, carried, x, wanted);
-        let after = r.held;
-        return came_to(r.refusal, x, after);
-    }
+}
+
+fn play_transport(
+    words: &[u64],
+    at: usize,
+    bed: &[i64],
+    depth: &[u64],
+    discharge: &[i64],
+    mass: &mut [u64],
+    base: &mut [u64],
+    carried: &mut [i64],
+    x: u64,
+    held: Held,
+) -> Played
+    requires { at + 206 ≤ length words.now }
+    ensures { (out : List ℕ) → Plays (came bed.now depth.now discharge.now mass.old base.old carried.old x held) (free_at words.now at) transport_call out result bed.now depth.now discharge.now mass.new base.new carried.new out }
+{
+    let wanted = with_wants(words, at, held);
+    let r = transport(bed, depth, discharge, mass, base, carried, x, wanted);
+    let after = r.held;
+    came_to(r.refusal, x, after)
+}
+
+fn play_setting(
+    words: &[u64],
+    at: usize,
+    bed: &[i64],
+    depth: &[u64],
+    discharge: &[i64],
+    mass: &mut [u64],
+    base: &mut [u64],
+    carried: &mut [i64],
+    x: u64,
+    held: Held,
+) -> Played
+    requires { at + 206 ≤ length words.now }
+    ensures { (out : List ℕ) → Plays (came bed.now depth.now discharge.now mass.old base.old carried.old x held) (free_at words.now at) (boundaries_call (boundary_from words.now (at + 3) ∷ boundary_from words.now (at + 8) ∷ [])) out result bed.now depth.now discharge.now mass.new base.new carried.new out }
+{
+    let wanted = with_wants(words, at, held);
     let given = boundaries_from(words, at);
     let r = set_boundaries(bed, depth, discharge, mass, base, carried, x, wanted, given);
     let after = r.held;
     came_to(r.refusal, x, after)
 }
 
-// A greatest_step_lem call or a write: the calls that only read the columns, with the wants of the call. A write is lent the first bytes of the
-// output, as many as it asks for.
-fn play_reading(
+fn play_greatest(
+    words: &[u64],
+    at: usize,
+    bed: &[i64],
+    depth: &[u64],
+    discharge: &[i64],
+    mass: &[u64],
+    base: &[u64],
+    carried: &[i64],
+    x: u64,
+    held: Held,
+) -> Played
+    requires { at + 206 ≤ length words.now }
+    ensures { (out : List ℕ) → Plays (came bed.now depth.now discharge.now mass.now base.now carried.now x held) (free_at words.now at) greatest_call out result bed.now depth.now discharge.now mass.now base.now carried.now out }
+{
+    let wanted = with_wants(words, at, held);
+    let r = greatest_step(bed, depth, discharge, mass, base, carried, x, wanted);
+    let after = r.held;
+    Played {
+        refusal: r.refusal,
+        transported: false,
+        time: r.time,
+        place: r.place,
+        cell_length: x,
+        held: after,
+    }
+}
+
+// A write is lent the first bytes of the output, as many as it asks for.
+fn play_write(
     words: &[u64],
     at: usize,
     bed: &[i64],
@@ -86,26 +145,12 @@ fn play_reading(
     held: Held,
     out: &mut [u8],
 ) -> Played
-    requires at_in_bounds { at + 206 ≤ length words.now }
-    requires bound { (3 ≤ get_or words.now at 0) × (get_or words.now at 0 < 5) }
-    ensures { (sheets : List ℕ) → Plays (came bed.now depth.now discharge.now mass.now base.now carried.now x held) (free_at words.now at) (call_at words.now sheets (length out.old) at) out.old result bed.now depth.now discharge.now mass.now base.now carried.now out.new }
+    requires { at + 206 ≤ length words.now }
+    ensures { Plays (came bed.now depth.now discharge.now mass.now base.now carried.now x held) (free_at words.now at) (write_call (min (get_or words.now (at + 1) 0) (length out.old))) out.old result bed.now depth.now discharge.now mass.now base.now carried.now out.new }
 {
     let wanted = with_wants(words, at, held);
-    let word = words[at];
-    if word == 3 {
-        let r = greatest_step(bed, depth, discharge, mass, base, carried, x, wanted);
-        let after = r.held;
-        return Played {
-            refusal: r.refusal,
-            transported: false,
-            time: r.time,
-            place: r.place,
-            cell_length: x,
-            held: after,
-        };
-    }
     let asked = words[at + 1];
-    let room = least(asked as usize, out.len());
+    let room = (asked as usize).min(out.len());
     let r = write_sheet(
         bed,
         depth,
@@ -147,14 +192,13 @@ fn play_opening(
     x: u64,
     held: Held,
 ) -> Played
-    requires at_in_bounds { at + 206 ≤ length words.now }
-    requires bound { 5 ≤ get_or words.now at 0 }
-    ensures { (room : ℕ) (out : List ℕ) → Plays (came bed.old depth.old discharge.old mass.old base.old carried.old x held) (free_at words.now at) (call_at words.now sheets.now room at) out result bed.new depth.new discharge.new mass.new base.new carried.new out }
+    requires { at + 206 ≤ length words.now }
+    ensures { (out : List ℕ) → Plays (came bed.old depth.old discharge.old mass.old base.old carried.old x held) (free_at words.now at) (open_call (part sheets.now (get_or words.now (at + 1) 0) (get_or words.now (at + 2) 0)) (outlets_from words.now (at + 45))) out result bed.new depth.new discharge.new mass.new base.new carried.new out }
 {
     let from = words[at + 1];
     let to = words[at + 2];
-    let start = least(from as usize, sheets.len());
-    let end = most(start, least(to as usize, sheets.len()));
+    let start = (from as usize).min(sheets.len());
+    let end = start.max((to as usize).min(sheets.len()));
     let outlets = outlets_from(words, at + 45);
     let r = open_sheet(
         &sheets[start..end],
@@ -169,7 +213,33 @@ fn play_opening(
     opened(r, x, held)
 }
 
-// By the first word of the call: 0 a step, 1 a transport, 2 a setting of boundaries, 3 a greatest_step_lem call, 4 a write, any other an opening
+// What a call is, by its first word
+#[derive(Clone, Copy)]
+enum Kind {
+    Step,
+    Transport,
+    Boundaries,
+    Greatest,
+    Write,
+    Opening,
+}
+
+impl From<u64> for Kind {
+    ghost from_gives = { KindOf };
+
+    fn from(word: u64) -> Kind {
+        match word {
+            0 => Kind::Step,
+            1 => Kind::Transport,
+            2 => Kind::Boundaries,
+            3 => Kind::Greatest,
+            4 => Kind::Write,
+            _ => Kind::Opening,
+        }
+    }
+}
+
+// One call, played through the function of its kind
 pub fn play_call(
     words: &[u64],
     at: usize,
@@ -187,18 +257,24 @@ pub fn play_call(
     requires { at + 206 ≤ length words.now }
     ensures { Plays (came bed.old depth.old discharge.old mass.old base.old carried.old x held) (free_at words.now at) (call_at words.now sheets.now (length out.old) at) out.old result bed.new depth.new discharge.new mass.new base.new carried.new out.new }
 {
-    let word = words[at];
-    if word < 3 {
-        return play_moving(
+    match Kind::from(words[at]) {
+        Kind::Step => play_step(
             words, at, bed, depth, discharge, mass, base, carried, x, held,
-        );
-    }
-    if word < 5 {
-        return play_reading(
+        ),
+        Kind::Transport => play_transport(
+            words, at, bed, depth, discharge, mass, base, carried, x, held,
+        ),
+        Kind::Boundaries => play_setting(
+            words, at, bed, depth, discharge, mass, base, carried, x, held,
+        ),
+        Kind::Greatest => play_greatest(
+            words, at, bed, depth, discharge, mass, base, carried, x, held,
+        ),
+        Kind::Write => play_write(
             words, at, bed, depth, discharge, mass, base, carried, x, held, out,
-        );
+        ),
+        Kind::Opening => play_opening(
+            words, at, sheets, bed, depth, discharge, mass, base, carried, x, held,
+        ),
     }
-    play_opening(
-        words, at, sheets, bed, depth, discharge, mass, base, carried, x, held,
-    )
 }

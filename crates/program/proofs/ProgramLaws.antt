@@ -11,7 +11,6 @@ use lib.ListN.{length, take, replicate}
 use Rattle.reach.specs.Reach.{Reach}
 use Rattle.reach.specs.Grounds.{first_refusal}
 use Rattle.reach.specs.Outcome.{Outcome}
-use Rattle.reach.specs.declared.ledger.Ledger.{Ledger}
 use Rattle.encoding.specs.FromBytes.{number_at}
 use Rattle.outlet.specs.Outlets.{no_outlets}
 use Rattle.sheet.specs.Opening.{lent}

@@ -9,6 +9,7 @@ use Rattle.sheet.specs.Opening.{lent}
 use Rattle.play.specs.Play.{and_then, played}
 use Rattle.outlet.specs.Outlets.{no_outlets}
 use Rattle.report.specs.Report.{outcome_text}
+use Rattle.reach.specs.declared.refusal.Refusal.TheVariants as refusal
 
 -- columns for as many cells as the sheet's bytes hold, and an empty list of outlets
 unfoldable pub blank : ℕ → Reach
@@ -25,7 +26,7 @@ input_fits size = leb size 12_376
 
 -- under 8 bytes in all is 1, over 12,376 is 2
 abbrev pub input_grounds : (size : ℕ) → List Ground
-input_grounds size = ground 1 (trailer_fits size) ∷ ground 2 (input_fits size) ∷ []
+input_grounds size = ground refusal.Edition (trailer_fits size) ∷ ground refusal.Size (input_fits size) ∷ []
 
 -- the two limits are looked at first; the sheet is all but the last 8 bytes
 unfoldable pub program_text : List ℕ → List ℕ

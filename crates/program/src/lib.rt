@@ -15,7 +15,7 @@ ghost use Rattle.program.specs.Program.{trailer_fits, input_fits, program_text};
 use encoding::reading::read_number;
 use play::play;
 use reach::cells::CELLS_MOST;
-use reach::refusal::Check;
+use reach::refusal::Refusal;
 use report::{put_refused, put_report};
 use sheet::header::HEADER_SIZE;
 
@@ -63,23 +63,19 @@ fn cells_in(k: usize) -> usize
 }
 
 // An input under 8 bytes is 1
-fn check_trailer(size: usize) -> Check
-    ensures { result ≡ pass_or 1 (trailer_fits size) }
+#[tactic(auto, unfolding(crate::specs::Program::trailer_fits))]
+fn check_trailer(size: usize) -> Result<(), Refusal>
+    ensures { result ≡ pass_or Refusal.Edition (trailer_fits size) }
 {
-    if size < TRAILER {
-        return Check::Refused(1);
-    }
-    Check::Pass
+    Refusal::Edition.unless(TRAILER <= size)
 }
 
 // One over 12,376 bytes is 2
-fn check_input(size: usize) -> Check
-    ensures { result ≡ pass_or 2 (input_fits size) }
+#[tactic(auto, unfolding(crate::specs::Program::input_fits))]
+fn check_input(size: usize) -> Result<(), Refusal>
+    ensures { result ≡ pass_or Refusal.Size (input_fits size) }
 {
-    if INPUT_MOST < size {
-        return Check::Refused(2);
-    }
-    Check::Pass
+    Refusal::Size.unless(size <= INPUT_MOST)
 }
 
 // The text for this input, at the start of `out`; answers its length.
@@ -88,16 +84,17 @@ pub fn program(input: &[u8], out: &mut [u8]) -> usize
     ensures value { (result ≡ length (program_text input.now)) × (result ≤ 65_536) }
     ensures put { Put out.old 0 (program_text input.now) out.new }
 {
-    let Check::Pass = check_trailer(input.len()) else {
-        return put_refused(out, 1);
-    };
-    let Check::Pass = check_input(input.len()) else {
-        return put_refused(out, 2);
-    };
+    if let Err(r) = check_trailer(input.len()) {
+        return put_refused(out, r.into());
+    }
+    if let Err(r) = check_input(input.len()) {
+        return put_refused(out, r.into());
+    }
     let k = input.len() - TRAILER;
     let count = read_number(input, k, 4);
     let t = read_number(input, k + 4, 4);
     let n = cells_in(k);
+    // no heap: room for the longest reach
     let mut z = [0i64; CELLS_MOST];
     let mut h = [0u64; CELLS_MOST];
     let mut q = [0i64; CELLS_MOST];

@@ -25,7 +25,8 @@ use Rattle.reach.specs.declared.boundary.Boundary.{Boundary}
 use Rattle.reach.specs.declared.held.Held.{Held}
 use Rattle.reach.specs.declared.ledger.Totals.{Totals}
 use Rattle.reach.specs.declared.ledger.Ledger.{Ledger}
-use Rattle.reach.specs.declared.refusal.Check.TheVariants.{Pass}
+use Rattle.std.specs.Prelude.{Ok}
+use Rattle.reach.specs.declared.refusal.Refusal.TheVariants as refusal
 use Rattle.reach.proofs.GroundsLaws.{stood, go_on, last_one}
 use Rattle.reach.proofs.CarriedLaws.{carried_is}
 use Rattle.reach.proofs.PartsLaws.{outflow_is}
@@ -244,7 +245,7 @@ pub record Sound (s : Reach) : Type 0 where
   pub totals : all_totals_fit s.held ≡ true
 
 module _ (s : Reach) (es : List Boundary) where
-  pub sound : first_refusal (record_grounds s es) ≡ Pass → Sound s
+  pub sound : first_refusal (record_grounds s es) ≡ Ok tt → Sound s
   unfolding cell_length_fits boundaries_fit carried_fit carried_cells_fit
   sound e =
       let t = stood (record_grounds s es) e in
@@ -273,10 +274,10 @@ module _ (s : Reach) (es : List Boundary) where
         totals = t 7;
       }
 
-  pub given_fits : first_refusal (record_grounds s es) ≡ Pass → boundaries_fit es ≡ true
+  pub given_fits : first_refusal (record_grounds s es) ≡ Ok tt → boundaries_fit es ≡ true
   given_fits e = stood (record_grounds s es) e 3
 
-  pub stands : Sound s → boundaries_fit es ≡ true → first_refusal (record_grounds s es) ≡ Pass
+  pub stands : Sound s → boundaries_fit es ≡ true → first_refusal (record_grounds s es) ≡ Ok tt
   unfolding cell_length_fits cells_fit carried_fit carried_cells_fit
   stands k g =
       let lengths : LengthsSound (cells s) (length s.depth) (length s.discharge) (length s.mass) (length s.base) (length s.carried) = record {
@@ -296,4 +297,4 @@ module _ (s : Reach) (es : List Boundary) where
       (go_on _ _ k.outlets
       (go_on _ _ (on _ _ (all_below_lem _ (length s.depth) (λ i l. carried_stands _ _ _ _ _ (k.water i (omega arith))))
       (on _ _ (shut_stands _ _ k.shut_left) (only _ ∙ shut_stands _ _ last)))
-      (last_one 9 _ ∙ ap (pass_or 9) k.totals)))))))
+      (last_one refusal.Ledger _ ∙ ap (pass_or refusal.Ledger) k.totals)))))))

@@ -1,5 +1,5 @@
 -- Document 01, 'Grounds for refusal, in checking order': the list, and grounds 4 to 9; document 02's 16.
-use Rattle.std.specs.Prelude.{List, [], ◌∷◌, Bool, true, false, cond, ℕ, ◌+◌, ◌*◌, ℤ, pos, ◌+ℤ◌, ◌-ℤ◌, nat_abs, length, get_or, leb, ltb, eqb}
+use Rattle.std.specs.Prelude.{List, [], ◌∷◌, Bool, true, false, cond, ℕ, ◌+◌, ◌*◌, ℤ, pos, ◌+ℤ◌, ◌-ℤ◌, nat_abs, length, get_or, leb, ltb, eqb, Result, Ok, Err}
 use Rattle.numbers.specs.Index.{all_of, all_below, sum}
 use Rattle.numbers.specs.Signed.{eqℤ}
 use Rattle.outlet.specs.Outlets.{outlets_most, want_most, outlet_at}
@@ -13,33 +13,38 @@ use Rattle.reach.specs.declared.boundary.Boundary.{Boundary}
 use Rattle.reach.specs.declared.held.Held.{Held}
 use Rattle.reach.specs.declared.ledger.Totals.{Totals}
 use Rattle.reach.specs.declared.ledger.Ledger.{Ledger}
-use Rattle.reach.specs.declared.refusal.Check.{Check}
-use Rattle.reach.specs.declared.refusal.Check.TheVariants.{Pass, Refused}
+use Rattle.reach.specs.Refusals.{number}
+use Rattle.reach.specs.declared.refusal.Refusal.{Refusal}
+use Rattle.reach.specs.declared.refusal.Refusal.TheVariants as refusal
 
 -- ---- the list
 
--- a ground for refusal: its number, and whether the call stands it
+-- a ground for refusal, and whether the call stands it
 pub record Ground : Type 0 where
-  pub number : ℕ
+  pub refusal : Refusal
   pub stands : Bool
 
-abbrev pub ground : ℕ → Bool → Ground
-ground n t = record { number = n; stands = t }
+abbrev pub ground : Refusal → Bool → Ground
+ground r t = record { refusal = r; stands = t }
+
+-- what a check comes to
+abbrev pub Verdict : Type 0
+Verdict = Result (Unit {0}) Refusal
 
 -- the first ground, in checking order, that the call does not stand
-unfoldable pub first_refusal : List Ground → Check
-first_refusal [] = Pass
-first_refusal (g ∷ gs) = cond g.stands (first_refusal gs) (Refused g.number)
+unfoldable pub first_refusal : List Ground → Verdict
+first_refusal [] = Ok tt
+first_refusal (g ∷ gs) = cond g.stands (first_refusal gs) (Err g.refusal)
 
--- a check's answer as the paper's number, 0 for none
-abbrev pub number_of : Check → ℕ
-number_of Pass = 0
-number_of (Refused n) = n
+-- a verdict as the paper's number, 0 for none
+abbrev pub number_of : Verdict → ℕ
+number_of (Ok u) = 0
+number_of (Err r) = number r
 
--- the answer of the check of one ground
-abbrev pub pass_or : ℕ → Bool → Check
-pass_or n true = Pass
-pass_or n false = Refused n
+-- the verdict on one ground
+abbrev pub pass_or : Refusal → Bool → Verdict
+pass_or r true = Ok tt
+pass_or r false = Err r
 
 -- ---- 4: the bed column's length is in 1..512, and the other columns' lengths fit it
 unfoldable pub lengths_fit : (bed depth discharge mass base carried : ℕ) → Bool
@@ -145,12 +150,12 @@ all_totals_fit h = all_of (ledger_fits h.ledger ∷ all_below h.outlets.count (�
 -- holds the pair that it has
 abbrev pub record_grounds : Reach → List Boundary → List Ground
 record_grounds s es =
-    ground 4 (lengths_fit (length s.bed) (length s.depth) (length s.discharge) (length s.mass) (length s.base) (length s.carried))
-    ∷ ground 5 (cell_length_fits s.cell_length)
-    ∷ ground 6 (boundaries_fit s.held.boundaries)
-    ∷ ground 6 (boundaries_fit es)
-    ∷ ground 7 (cells_fit s.bed s.depth s.discharge s.mass s.base)
-    ∷ ground 16 (outlets_fit (length s.bed) s.held.outlets)
-    ∷ ground 8 (carried_fit s.depth s.base s.carried (drawn_from s.held.outlets) (left_boundary s.held.boundaries).kind (right_boundary s.held.boundaries).kind)
-    ∷ ground 9 (all_totals_fit s.held)
+    ground refusal.Lengths (lengths_fit (length s.bed) (length s.depth) (length s.discharge) (length s.mass) (length s.base) (length s.carried))
+    ∷ ground refusal.CellLength (cell_length_fits s.cell_length)
+    ∷ ground refusal.Boundaries (boundaries_fit s.held.boundaries)
+    ∷ ground refusal.Boundaries (boundaries_fit es)
+    ∷ ground refusal.Values (cells_fit s.bed s.depth s.discharge s.mass s.base)
+    ∷ ground refusal.Outlets (outlets_fit (length s.bed) s.held.outlets)
+    ∷ ground refusal.Carried (carried_fit s.depth s.base s.carried (drawn_from s.held.outlets) (left_boundary s.held.boundaries).kind (right_boundary s.held.boundaries).kind)
+    ∷ ground refusal.Ledger (all_totals_fit s.held)
     ∷ []

@@ -1,6 +1,6 @@
 -- Document 01, 'Settling': the water that has left a cell since the last transport, in parts. Ground 8, the transport test of a step and
 -- the shares of a cell's mass all read them here.
-use Rattle.std.specs.Prelude.{List, [], ◌∷◌, ℕ, suc, ℤ, neg_ℤ, get_or}
+use Rattle.std.specs.Prelude.{List, ◌∷◌, ℕ, suc, ℤ, neg_ℤ, get_or}
 use Rattle.numbers.specs.Index.{sum}
 use Rattle.numbers.specs.Signed.{positive}
 use Rattle.outlet.specs.Outlets.{from_cell}

@@ -1,8 +1,6 @@
 -- Document 01, 'What a record holds': the record of a reach as a call is given it, with the boundaries (the paper's 'ends') and the
 -- ledger (its 'book') that travel with it.
 use Rattle.std.specs.Prelude.{List, ℕ, ℤ, pos, length, get_or}
-use Rattle.std.specs.Borrow.{Bor}
-use denote.Triple.Both.{Both}
 use Rattle.outlet.specs.declared.Outlets.{Outlets}
 use Rattle.reach.specs.declared.boundary.Boundary.{Boundary}
 use Rattle.reach.specs.declared.held.Held.{Held}

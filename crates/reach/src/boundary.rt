@@ -2,14 +2,13 @@
 ghost use Rattle.std.specs.Prelude.{◌≡◌};
 ghost use Rattle.reach.specs.Grounds.{wall_fits, open_fits, fed_fits, kind_fits, boundary_fits, boundaries_fit, pass_or};
 
-use super::refusal::Check;
-use numbers::signed::magnitude;
+use super::refusal::Refusal;
 
 // Both boundaries travel as one value: [Boundary; 2], the left one first.
 #[repr(C)]
-#[derive(Clone, Copy)]
+#[derive(Clone, Copy, Default)]
 pub struct Boundary {
-    // 0 wall, 1 open, 2 fed
+    // 0 wall, 1 open, 2 fed: a number and no enum, since C passes it, and any other is refused by 6
     pub kind: u32,
     // always 0: the paper's 'zero field'
     pub reserved: u32,
@@ -34,77 +33,52 @@ pub const OPEN: u32 = 1;
 
 pub const FED: u32 = 2;
 
+#[tactic(auto, unfolding(crate::specs::Grounds::wall_fits, numbers::specs::Index::all_of))]
 fn wall_fits(depth: u64, concentration: u64, discharge: i64) -> bool
     ensures { result ≡ wall_fits depth concentration discharge }
 {
-    if depth != 0 {
-        return false;
-    }
-    if magnitude(discharge) != 0 {
-        return false;
-    }
-    concentration == 0
+    depth == 0 && discharge == 0 && concentration == 0
 }
 
+#[tactic(auto, unfolding(crate::specs::Grounds::open_fits, numbers::specs::Index::all_of))]
 fn open_fits(depth: u64, concentration: u64, discharge: i64) -> bool
     ensures { result ≡ open_fits depth concentration discharge }
 {
-    if depth != 0 {
-        return false;
-    }
-    if magnitude(discharge) != 0 {
-        return false;
-    }
-    concentration <= 500_000
+    depth == 0 && discharge == 0 && concentration <= 500_000
 }
 
+#[tactic(auto, unfolding(crate::specs::Grounds::fed_fits, numbers::specs::Index::all_of))]
 fn fed_fits(depth: u64, concentration: u64, discharge: i64) -> bool
     ensures { result ≡ fed_fits depth concentration discharge }
 {
-    if depth < 1 {
-        return false;
-    }
-    if 4_000_000 < depth {
-        return false;
-    }
-    if 8_000 * depth < magnitude(discharge) {
-        return false;
-    }
-    concentration <= 500_000
+    1 <= depth
+        && depth <= 4_000_000
+        && discharge.unsigned_abs() <= 8_000 * depth
+        && concentration <= 500_000
 }
 
+#[tactic(auto, unfolding(crate::specs::Grounds::kind_fits))]
 fn kind_fits(kind: u32, depth: u64, concentration: u64, discharge: i64) -> bool
     ensures { result ≡ kind_fits kind depth concentration discharge }
 {
-    if kind == WALL {
-        return wall_fits(depth, concentration, discharge);
+    match kind {
+        WALL => wall_fits(depth, concentration, discharge),
+        OPEN => open_fits(depth, concentration, discharge),
+        FED => fed_fits(depth, concentration, discharge),
+        _ => false,
     }
-    if kind == OPEN {
-        return open_fits(depth, concentration, discharge);
-    }
-    if kind == FED {
-        return fed_fits(depth, concentration, discharge);
-    }
-    false
 }
 
+#[tactic(auto, unfolding(crate::specs::Grounds::boundary_fits, numbers::specs::Index::all_of))]
 fn boundary_fits(e: Boundary) -> bool
     ensures { result ≡ boundary_fits e }
 {
-    if e.reserved != 0 {
-        return false;
-    }
-    kind_fits(e.kind, e.depth, e.concentration, e.discharge)
+    e.reserved == 0 && kind_fits(e.kind, e.depth, e.concentration, e.discharge)
 }
 
-pub fn check_boundaries(boundaries: [Boundary; 2]) -> Check
-    ensures { result ≡ pass_or 6 (boundaries_fit boundaries) }
+#[tactic(auto, unfolding(crate::specs::Grounds::boundaries_fit, numbers::specs::Index::all_of))]
+pub fn check_boundaries(boundaries: [Boundary; 2]) -> Result<(), Refusal>
+    ensures { result ≡ pass_or Refusal.Boundaries (boundaries_fit boundaries) }
 {
-    if !boundary_fits(boundaries[0]) {
-        return Check::Refused(6);
-    }
-    if !boundary_fits(boundaries[1]) {
-        return Check::Refused(6);
-    }
-    Check::Pass
+    Refusal::Boundaries.unless(boundary_fits(boundaries[0]) && boundary_fits(boundaries[1]))
 }

@@ -10,8 +10,8 @@ ghost use Rattle.reach.specs.Parts.{drawn_from};
 use super::boundary::WALL;
 use super::cells::CELLS_MOST;
 use super::outlets::drawn_by_cell;
-use super::refusal::Check;
-use numbers::signed::{magnitude, within};
+use super::refusal::Refusal;
+use numbers::signed::within;
 use outlet::Outlets;
 
 // The size of l is looked at before, and that of r follows: r is at most what is kept of b, and it is a level, not below 0, less h. That no more left than the base depth is
@@ -37,42 +37,40 @@ pub fn carried_fits(h: u64, b: u64, l: i64, r: i64, drawn: u64) -> bool
 }
 
 // At a wall nothing is carried.
+#[tactic(auto, unfolding(crate::specs::Grounds::shut_fits))]
 fn shut_fits(kind: u32, c: i64) -> bool
     ensures { result ≡ shut_fits kind c }
 {
-    if kind != WALL {
-        return true;
-    }
-    magnitude(c) == 0
+    kind != WALL || c == 0
 }
 
 // Both boundaries of n cells
+#[tactic(auto, unfolding(numbers::specs::Index::all_of))]
 pub fn walls_fit(carried: &[i64], n: usize, left_kind: u32, right_kind: u32) -> bool
     requires { n < length carried.now }
     ensures { result ≡ all_of (shut_fits left_kind (get_or carried.now 0 (pos 0)) ∷ shut_fits right_kind (get_or carried.now n (pos 0)) ∷ []) }
 {
-    if !shut_fits(left_kind, carried[0]) {
-        return false;
-    }
-    shut_fits(right_kind, carried[n])
+    shut_fits(left_kind, carried[0]) && shut_fits(right_kind, carried[n])
 }
 
-fn check_carried_cells(depth: &[u64], base: &[u64], carried: &[i64], drawn: &[u64]) -> Check
+fn check_carried_cells(
+    depth: &[u64],
+    base: &[u64],
+    carried: &[i64],
+    drawn: &[u64],
+) -> Result<(), Refusal>
     requires { CarriedLengths depth.now base.now carried.now drawn.now }
-    ensures { result ≡ pass_or 8 (carried_cells_fit depth.now base.now carried.now (alone drawn.now)) }
+    ensures { result ≡ pass_or Refusal.Carried (carried_cells_fit depth.now base.now carried.now (alone drawn.now)) }
 {
-    let n = depth.len();
     if !within(carried[0], 4_000_000) {
-        return Check::Refused(8);
+        return Err(Refusal::Carried);
     }
-    let mut i = 0;
-    while i < n {
+    for i in 0..depth.len() {
         if !carried_fits(depth[i], base[i], carried[i], carried[i + 1], drawn[i]) {
-            return Check::Refused(8);
+            return Err(Refusal::Carried);
         }
-        i += 1;
     }
-    Check::Pass
+    Ok(())
 }
 
 // Ground 8, of a list of outlets that stood ground 16.
@@ -83,18 +81,14 @@ pub fn check_carried(
     outlets: Outlets,
     left_kind: u32,
     right_kind: u32,
-) -> Check
+) -> Result<(), Refusal>
     requires carried_columns { CarriedColumns depth.now base.now carried.now }
     requires outlets_value { outlets_fit (length depth.now) outlets ≡ true }
-    ensures { result ≡ pass_or 8 (carried_fit depth.now base.now carried.now (drawn_from outlets) left_kind right_kind) }
+    ensures { result ≡ pass_or Refusal.Carried (carried_fit depth.now base.now carried.now (drawn_from outlets) left_kind right_kind) }
 {
+    // no heap: room for the longest reach
     let mut drawn = [0u64; CELLS_MOST];
     drawn_by_cell(outlets, &mut drawn);
-    let Check::Pass = check_carried_cells(depth, base, carried, &drawn) else {
-        return Check::Refused(8);
-    };
-    if !walls_fit(carried, depth.len(), left_kind, right_kind) {
-        return Check::Refused(8);
-    }
-    Check::Pass
+    check_carried_cells(depth, base, carried, &drawn)?;
+    Refusal::Carried.unless(walls_fit(carried, depth.len(), left_kind, right_kind))
 }

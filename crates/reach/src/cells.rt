@@ -3,12 +3,13 @@ ghost use Rattle.std.specs.Prelude.{◌≡◌, length};
 ghost use Rattle.reach.specs.Grounds.{lengths_fit, cell_length_fits, cell_fits, cells_fit, pass_or};
 ghost use Rattle.reach.specs.Ranges.{CellLengths};
 
-use super::refusal::Check;
-use numbers::signed::{magnitude, within};
+use super::refusal::Refusal;
+use numbers::signed::within;
 
 // The cells of a reach: work arrays of the calls are as long
 pub const CELLS_MOST: usize = 512;
 
+#[tactic(auto, unfolding(crate::specs::Grounds::lengths_fit, numbers::specs::Index::all_of))]
 fn lengths_fit(
     bed: usize,
     depth: usize,
@@ -19,25 +20,13 @@ fn lengths_fit(
 ) -> bool
     ensures { result ≡ lengths_fit bed depth discharge mass base carried }
 {
-    if bed < 1 {
-        return false;
-    }
-    if CELLS_MOST < bed {
-        return false;
-    }
-    if depth != bed {
-        return false;
-    }
-    if discharge != bed {
-        return false;
-    }
-    if mass != bed {
-        return false;
-    }
-    if base != bed {
-        return false;
-    }
-    carried == bed + 1
+    1 <= bed
+        && bed <= CELLS_MOST
+        && depth == bed
+        && discharge == bed
+        && mass == bed
+        && base == bed
+        && carried == bed + 1
 }
 
 pub fn check_lengths(
@@ -47,56 +36,41 @@ pub fn check_lengths(
     mass: &[u64],
     base: &[u64],
     carried: &[i64],
-) -> Check
-    ensures { result ≡ pass_or 4 (lengths_fit (length bed.now) (length depth.now) (length discharge.now) (length mass.now) (length base.now) (length carried.now)) }
+) -> Result<(), Refusal>
+    ensures { result ≡ pass_or Refusal.Lengths (lengths_fit (length bed.now) (length depth.now) (length discharge.now) (length mass.now) (length base.now) (length carried.now)) }
 {
-    if !lengths_fit(
+    Refusal::Lengths.unless(lengths_fit(
         bed.len(),
         depth.len(),
         discharge.len(),
         mass.len(),
         base.len(),
         carried.len(),
-    ) {
-        return Check::Refused(4);
-    }
-    Check::Pass
+    ))
 }
 
+#[tactic(auto, unfolding(crate::specs::Grounds::cell_length_fits, numbers::specs::Index::all_of))]
 fn cell_length_fits(x: u64) -> bool
     ensures { result ≡ cell_length_fits x }
 {
-    if x < 100 {
-        return false;
-    }
-    x <= 100_000
+    100 <= x && x <= 100_000
 }
 
-pub fn check_cell_length(x: u64) -> Check
-    ensures { result ≡ pass_or 5 (cell_length_fits x) }
+pub fn check_cell_length(x: u64) -> Result<(), Refusal>
+    ensures { result ≡ pass_or Refusal.CellLength (cell_length_fits x) }
 {
-    if !cell_length_fits(x) {
-        return Check::Refused(5);
-    }
-    Check::Pass
+    Refusal::CellLength.unless(cell_length_fits(x))
 }
 
+#[tactic(auto, unfolding(crate::specs::Grounds::cell_fits, numbers::specs::Index::all_of))]
 pub fn cell_fits(z: i64, h: u64, q: i64, m: u64, b: u64) -> bool
     ensures { result ≡ cell_fits z h q m b }
 {
-    if !within(z, 100_000_000) {
-        return false;
-    }
-    if 4_000_000 < h {
-        return false;
-    }
-    if 8_000 * h < magnitude(q) {
-        return false;
-    }
-    if 4_000_000 < b {
-        return false;
-    }
-    m <= 500_000 * b
+    within(z, 100_000_000)
+        && h <= 4_000_000
+        && q.unsigned_abs() <= 8_000 * h
+        && b <= 4_000_000
+        && m <= 500_000 * b
 }
 
 pub fn check_cells(
@@ -105,17 +79,15 @@ pub fn check_cells(
     discharge: &[i64],
     mass: &[u64],
     base: &[u64],
-) -> Check
+) -> Result<(), Refusal>
     requires { CellLengths (length bed.now) (length depth.now) (length discharge.now) (length mass.now) (length base.now) }
-    ensures { result ≡ pass_or 7 (cells_fit bed.now depth.now discharge.now mass.now base.now) }
+    ensures { result ≡ pass_or Refusal.Values (cells_fit bed.now depth.now discharge.now mass.now base.now) }
 {
     let n = bed.len();
-    let mut i = 0;
-    while i < n {
+    for i in 0..n {
         if !cell_fits(bed[i], depth[i], discharge[i], mass[i], base[i]) {
-            return Check::Refused(7);
+            return Err(Refusal::Values);
         }
-        i += 1;
     }
-    Check::Pass
+    Ok(())
 }

@@ -6,7 +6,7 @@ ghost use Rattle.reach.specs.Grounds.{all_totals_fit, pass_or};
 use super::boundary::Boundary;
 use super::ledger::{Ledger, ledger_fits};
 use super::outlets::each_totals_fit;
-use super::refusal::Check;
+use super::refusal::Refusal;
 use outlet::Outlets;
 
 // The boundaries held, the ledger and the outlets. A call is given them and hands them back, a refused one as they came.
@@ -21,27 +21,17 @@ pub struct Held {
 }
 
 // Every total, of the ledger and of the outlets
+#[tactic(auto, unfolding(crate::specs::Grounds::all_totals_fit, numbers::specs::Index::all_of, numbers::specs::Index::all_below))]
 pub fn all_totals_fit(held: Held) -> bool
     requires { held.outlets.count ≤ outlets_most }
     ensures { result ≡ all_totals_fit held }
 {
-    let ledger = held.ledger;
-    if !ledger_fits(ledger) {
-        return false;
-    }
-    if held.outlets.count == 0 {
-        return true;
-    }
-    let outlets = held.outlets;
-    each_totals_fit(outlets)
+    ledger_fits(held.ledger) && (held.outlets.count == 0 || each_totals_fit(held.outlets))
 }
 
-pub fn check_totals(held: Held) -> Check
+pub fn check_totals(held: Held) -> Result<(), Refusal>
     requires { held.outlets.count ≤ outlets_most }
-    ensures { result ≡ pass_or 9 (all_totals_fit held) }
+    ensures { result ≡ pass_or Refusal.Ledger (all_totals_fit held) }
 {
-    if !all_totals_fit(held) {
-        return Check::Refused(9);
-    }
-    Check::Pass
+    Refusal::Ledger.unless(all_totals_fit(held))
 }

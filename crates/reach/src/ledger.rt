@@ -4,7 +4,7 @@ ghost use Rattle.reach.specs.Grounds.{totals_fit, ledger_fits};
 
 // Water in micrometres of depth, mass in the paper's 'grains' (one micrometre of depth at concentration 1)
 #[repr(C)]
-#[derive(Clone, Copy)]
+#[derive(Clone, Copy, Default)]
 pub struct Totals {
     pub water_in: u64,
     pub water_out: u64,
@@ -13,7 +13,7 @@ pub struct Totals {
 }
 
 #[repr(C)]
-#[derive(Clone, Copy)]
+#[derive(Clone, Copy, Default)]
 pub struct Ledger {
     pub left: Totals,
     pub right: Totals,
@@ -21,28 +21,16 @@ pub struct Ledger {
 
 const MOST: u64 = 1_000_000_000_000_000_000;
 
+#[tactic(auto, unfolding(crate::specs::Grounds::totals_fit, numbers::specs::Index::all_of))]
 fn totals_fit(t: Totals) -> bool
     ensures { result ≡ totals_fit t }
 {
-    if MOST < t.water_in {
-        return false;
-    }
-    if MOST < t.water_out {
-        return false;
-    }
-    if MOST < t.mass_in {
-        return false;
-    }
-    t.mass_out <= MOST
+    t.water_in <= MOST && t.water_out <= MOST && t.mass_in <= MOST && t.mass_out <= MOST
 }
 
+#[tactic(auto, unfolding(crate::specs::Grounds::ledger_fits, numbers::specs::Index::all_of))]
 pub fn ledger_fits(k: Ledger) -> bool
     ensures { result ≡ ledger_fits k }
 {
-    let left = k.left;
-    let right = k.right;
-    if !totals_fit(left) {
-        return false;
-    }
-    totals_fit(right)
+    totals_fit(k.left) && totals_fit(k.right)
 }

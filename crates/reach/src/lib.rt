@@ -24,10 +24,11 @@ use cells::{check_cell_length, check_cells, check_lengths};
 use held::{Held, check_totals};
 use outlets::check_outlets;
 use plain::check_plain;
-use refusal::Check;
+use refusal::Refusal;
 
 // Grounds 4 to 7, 16, 8 and 9: the checking order of every call on a record. A call that is given a new pair of boundaries has it checked as `given`; any other gives the pair
 // that it holds.
+#[tactic(auto, unfolding(crate::specs::Grounds::first_refusal))]
 pub fn check_record(
     bed: &[i64],
     depth: &[u64],
@@ -38,21 +39,13 @@ pub fn check_record(
     x: u64,
     held: Held,
     given: [Boundary; 2],
-) -> Check
+) -> Result<(), Refusal>
     ensures { result ≡ first_refusal (record_grounds (came bed.now depth.now discharge.now mass.now base.now carried.now x held) given) }
 {
-    let Check::Pass = check_lengths(bed, depth, discharge, mass, base, carried) else {
-        return Check::Refused(4);
-    };
-    let Check::Pass = check_cell_length(x) else {
-        return Check::Refused(5);
-    };
-    let Check::Pass = check_boundaries(held.boundaries) else {
-        return Check::Refused(6);
-    };
-    let Check::Pass = check_boundaries(given) else {
-        return Check::Refused(6);
-    };
+    check_lengths(bed, depth, discharge, mass, base, carried)?;
+    check_cell_length(x)?;
+    check_boundaries(held.boundaries)?;
+    check_boundaries(given)?;
     if held.outlets.count == 0 {
         let ledger = held.ledger;
         return check_plain(
@@ -67,25 +60,16 @@ pub fn check_record(
             ledger,
         );
     }
-    let Check::Pass = check_cells(bed, depth, discharge, mass, base) else {
-        return Check::Refused(7);
-    };
+    check_cells(bed, depth, discharge, mass, base)?;
     let outlets = held.outlets;
-    let Check::Pass = check_outlets(bed.len(), outlets) else {
-        return Check::Refused(16);
-    };
-    let Check::Pass = check_carried(
+    check_outlets(bed.len(), outlets)?;
+    check_carried(
         depth,
         base,
         carried,
         outlets,
         held.boundaries[0].kind,
         held.boundaries[1].kind,
-    ) else {
-        return Check::Refused(8);
-    };
-    let Check::Pass = check_totals(held) else {
-        return Check::Refused(9);
-    };
-    Check::Pass
+    )?;
+    check_totals(held)
 }

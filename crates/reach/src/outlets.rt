@@ -5,45 +5,37 @@ ghost use Rattle.outlet.specs.Outlets.{outlets_most, outlet_at};
 ghost use Rattle.reach.specs.Grounds.{outlet_fits, outlets_fit, outlet_totals_fit, pass_or};
 ghost use Rattle.reach.specs.Ranges.{cut_drawn};
 
-use super::refusal::Check;
+use super::refusal::Refusal;
 use drawing::adding::add_by_cell;
 use drawing::amounts::drawn_of;
 use outlet::{OUTLETS_MOST, Outlet, Outlets};
 
+#[tactic(auto, unfolding(crate::specs::Grounds::outlet_fits, numbers::specs::Index::all_of))]
 fn outlet_fits(n: usize, o: Outlet) -> bool
     ensures { result ≡ outlet_fits n o }
 {
-    if n as u64 <= o.cell {
-        return false;
-    }
-    o.want <= 4_000_000
+    o.cell < n as u64 && o.want <= 4_000_000
 }
 
-pub fn check_outlets(n: usize, outlets: Outlets) -> Check
-    ensures { result ≡ pass_or 16 (outlets_fit n outlets) }
+pub fn check_outlets(n: usize, outlets: Outlets) -> Result<(), Refusal>
+    ensures { result ≡ pass_or Refusal.Outlets (outlets_fit n outlets) }
 {
-    let count = outlets.count;
-    if OUTLETS_MOST < count {
-        return Check::Refused(16);
+    if OUTLETS_MOST < outlets.count {
+        return Err(Refusal::Outlets);
     }
-    let mut k = 0;
-    while k < count {
-        let o = outlets.list[k];
-        if !outlet_fits(n, o) {
-            return Check::Refused(16);
+    for k in 0..outlets.count {
+        if !outlet_fits(n, outlets.list[k]) {
+            return Err(Refusal::Outlets);
         }
-        k += 1;
     }
-    Check::Pass
+    Ok(())
 }
 
+#[tactic(auto, unfolding(crate::specs::Grounds::outlet_totals_fit, numbers::specs::Index::all_of))]
 fn outlet_totals_fit(o: Outlet) -> bool
     ensures { result ≡ outlet_totals_fit o }
 {
-    if 1_000_000_000_000_000_000 < o.water {
-        return false;
-    }
-    o.mass <= 1_000_000_000_000_000_000
+    o.water <= 1_000_000_000_000_000_000 && o.mass <= 1_000_000_000_000_000_000
 }
 
 // The totals of every outlet of a list that is not too long
@@ -51,14 +43,10 @@ pub fn each_totals_fit(outlets: Outlets) -> bool
     requires { outlets.count ≤ outlets_most }
     ensures { result ≡ all_below outlets.count (λ k. outlet_totals_fit (outlet_at outlets k)) }
 {
-    let count = outlets.count;
-    let mut k = 0;
-    while k < count {
-        let o = outlets.list[k];
-        if !outlet_totals_fit(o) {
+    for k in 0..outlets.count {
+        if !outlet_totals_fit(outlets.list[k]) {
             return false;
         }
-        k += 1;
     }
     true
 }

@@ -1,6 +1,5 @@
 -- Document 01, 'Figures to meet': what the program prints, in bytes. 32 is a space, 10 the end of a line.
 use Rattle.std.specs.Prelude.{cond, List, [], ◌∷◌, ◌++◌, ℕ, zero, suc, eqb, ℤ, pos, length, get_or}
-use Rattle.reach.specs.Reach.{Reach}
 use Rattle.reach.specs.Outcome.{Outcome}
 use Rattle.reach.specs.declared.ledger.Totals.{Totals}
 use Rattle.reach.specs.declared.ledger.Ledger.{Ledger}

@@ -1,26 +1,14 @@
 // How the words of a call and the bytes of the sheets are read.
-ghost use Rattle.std.specs.Prelude.{◌≡◌, [], ◌∷◌, ◌+◌, ◌≤◌, min, max, length};
+ghost use Rattle.std.specs.Prelude.{◌≡◌, [], ◌∷◌, ◌+◌, ◌≤◌, length};
 ghost use Rattle.outlet.specs.Outlets.{loaded};
 ghost use Rattle.reach.specs.Reach.{with_totals};
 ghost use Rattle.tally.specs.Call.{wanting};
 ghost use Rattle.script.specs.Script.{boundary_from, wants_from, outlet_from, outlets_from};
 
 use encoding::reading::twos_in;
-use outlet::{OUTLETS_MOST, Outlet, Outlets, none};
+use outlet::{OUTLETS_MOST, Outlet, Outlets};
 use reach::boundary::Boundary;
 use reach::held::Held;
-
-pub fn least(a: usize, b: usize) -> usize
-    ensures { result ≡ min a b }
-{
-    if a < b { a } else { b }
-}
-
-pub fn most(a: usize, b: usize) -> usize
-    ensures { result ≡ max a b }
-{
-    if a < b { b } else { a }
-}
 
 fn boundary_from(words: &[u64], at: usize) -> Boundary
     requires { at + 5 ≤ length words.now }
@@ -64,14 +52,10 @@ pub fn outlets_from(words: &[u64], at: usize) -> Outlets
     ensures { result ≡ loaded (outlets_from words.now at) }
 {
     let count = words[at] as usize;
-    let n = least(count, OUTLETS_MOST);
-    let o = none();
-    let mut room = [o; 32];
-    let mut k = 0;
-    while k < n {
-        let o = outlet_from(words, at + 1 + 5 * k);
-        room[k] = o;
-        k += 1;
+    let n = count.min(OUTLETS_MOST);
+    let mut room = [Outlet::default(); 32];
+    for (k, o) in room[..n].iter_mut().enumerate() {
+        *o = outlet_from(words, at + 1 + 5 * k);
     }
     Outlets { count, list: room }
 }
@@ -82,20 +66,10 @@ fn wanting_from(words: &[u64], at: usize, outlets: Outlets) -> Outlets
     ensures { result ≡ wanting (wants_from words.now at) outlets }
 {
     let count = outlets.count;
-    let n = least(count, OUTLETS_MOST);
+    let n = count.min(OUTLETS_MOST);
     let mut list = outlets.list;
-    let mut k = 0;
-    while k < n {
-        let o = list[k];
-        let want = words[at + k];
-        list[k] = Outlet {
-            cell: o.cell,
-            want,
-            drawn: o.drawn,
-            water: o.water,
-            mass: o.mass,
-        };
-        k += 1;
+    for (k, o) in list[..n].iter_mut().enumerate() {
+        o.want = words[at + k];
     }
     Outlets { count, list }
 }
@@ -105,13 +79,8 @@ pub fn with_wants(words: &[u64], at: usize, held: Held) -> Held
     requires { at + 206 ≤ length words.now }
     ensures { result ≡ with_totals held.ledger (wanting (wants_from words.now (at + 13)) held.outlets) held }
 {
-    let boundaries = held.boundaries;
-    let ledger = held.ledger;
-    let outlets = held.outlets;
-    let wanted = wanting_from(words, at + 13, outlets);
     Held {
-        boundaries,
-        ledger,
-        outlets: wanted,
+        outlets: wanting_from(words, at + 13, held.outlets),
+        ..held
     }
 }

@@ -7,9 +7,9 @@ use Rattle.outlet.proofs.LentLaws.{AsLoaded, each_as_loaded}
 use Rattle.reach.specs.Grounds.{first_refusal}
 use Rattle.reach.specs.Outcome.{outcome}
 use Rattle.reach.specs.Reach.{Reach}
-use Rattle.reach.specs.declared.refusal.Check.{Check}
-use Rattle.reach.specs.declared.refusal.Check.TheVariants.{Pass, Refused}
+use Rattle.reach.specs.Grounds.{Verdict}
 use Rattle.sheet.specs.Opening.{sheet_record, open_grounds, opening}
+use Rattle.std.specs.Prelude.{Ok, Err}
 
 module _ (n : ℕ) (sheet : List ℕ) (l : Reach) (a : AsLoaded n l.held.outlets) where
   opened_as_loaded : AsLoaded n (sheet_record sheet l.held.outlets).held.outlets
@@ -21,6 +21,6 @@ module _ (n : ℕ) (sheet : List ℕ) (l : Reach) (a : AsLoaded n l.held.outlets
   opening_as_loaded =
       go (first_refusal (open_grounds sheet (length l.bed) (length l.depth) (length l.discharge) (length l.mass) (length l.base) (length l.carried) l.held.outlets))
     where
-      go : (v : Check) → AsLoaded n (outcome v l (sheet_record sheet l.held.outlets)).reach.held.outlets
-      go Pass = opened_as_loaded
-      go (Refused _) = a
+      go : (v : Verdict) → AsLoaded n (outcome v l (sheet_record sheet l.held.outlets)).reach.held.outlets
+      go (Ok u) = opened_as_loaded
+      go (Err _) = a

@@ -21,9 +21,8 @@ use Rattle.reach.specs.Grounds.{ground, first_refusal, cell_length_fits, boundar
 use Rattle.reach.specs.Parts.{drawn_from}
 use Rattle.reach.specs.Outcome.{Outcome, outcome}
 use Rattle.reach.specs.declared.boundary.Boundary.{Boundary}
-use Rattle.reach.specs.declared.refusal.Check.{Check}
-use Rattle.reach.specs.declared.refusal.Check.TheVariants.{Pass, Refused}
-use Rattle.reach.proofs.GroundsLaws.{stood, numbered, refused_number}
+use Rattle.reach.specs.Grounds.{Verdict}
+use Rattle.reach.proofs.GroundsLaws.{stood, number_above}
 use Rattle.reach.proofs.Sound.{Sound, stands, CarriedSound, none_carried_lem, boundary_sound, cells_sound, outlets_few}
 use Rattle.encoding.specs.FromBytes.{number_at, twos, column_at}
 use Rattle.sheet.specs.Header.{header_size, count_of, beds_at, depths_at, discharges_at, masses_at, edition_fits, size_fits, Span, inside, apart_from, columns_clear, spans_of}
@@ -31,6 +30,10 @@ use Rattle.sheet.specs.Ranges.{LayoutOf, Within, cell_at}
 use Rattle.sheet.specs.Opening.{empty_ledger, held_of, sheet_record, lent, lent_fit, open_grounds, opening, unopened_by, OpenCameTo}
 use Rattle.sheet.specs.declared.header.Layout.{Layout}
 use Rattle.sheet.specs.declared.opening.OpenAnswer.{OpenAnswer}
+use Rattle.std.specs.Prelude.{Ok, Err}
+use Rattle.reach.specs.Refusals.{number}
+use Rattle.reach.specs.declared.refusal.Refusal.{Refusal}
+use Rattle.reach.specs.declared.refusal.Refusal.TheVariants as refusal
 
 -- ---- the values of a cell
 
@@ -124,39 +127,34 @@ lent_are n z h q m b c e =
 
 -- ---- what each outcome is
 
-all_numbered : (s : List ℕ) (l : Reach)
-    → numbered (open_grounds s (length l.bed) (length l.depth) (length l.discharge) (length l.mass) (length l.base) (length l.carried) l.held.outlets) ≡ true
-unfolding numbered
-all_numbered s l = refl
-
 module _ (s : List ℕ) (l : Reach) where
   -- what grounds 1 to 7 and 16 say of the sheet, of columns as long as those of l and of the outlets of l
-  abbrev pub check : Check
+  abbrev pub check : Verdict
   check = first_refusal (open_grounds s (length l.bed) (length l.depth) (length l.discharge) (length l.mass) (length l.base) (length l.carried) l.held.outlets)
 
   -- every statement about it, by the two ways it can go
-  pub by_opening : (P : Check → Type 0) → ((n : ℕ) → 0 < n → P (Refused n)) → (check ≡ Pass → P Pass) → P check
+  pub by_opening : (P : Verdict → Type 0) → ((r : Refusal) → 0 < number r → P (Err r)) → (check ≡ Ok tt → P (Ok tt)) → P check
   by_opening P stays opens = go check refl
     where
-      go : (k : Check) → check ≡ k → P k
-      go Pass e = opens e
-      go (Refused n) e = stays n (refused_number _ n (all_numbered s l) e)
+      go : (k : Verdict) → check ≡ k → P k
+      go (Ok u) e = opens e
+      go (Err r) e = stays r (number_above r)
 
-  pub opened_passes : (opening s l).refusal ≡ 0 → check ≡ Pass
+  pub opened_passes : (opening s l).refusal ≡ 0 → check ≡ Ok tt
   unfolding opening
-  opened_passes = by_opening (λ k. (outcome k l (sheet_record s l.held.outlets)).refusal ≡ 0 → k ≡ Pass) (λ n p z. absurd (omega arith)) (λ e z. refl)
+  opened_passes = by_opening (λ k. (outcome k l (sheet_record s l.held.outlets)).refusal ≡ 0 → k ≡ Ok tt) (λ n p z. absurd (omega arith)) (λ e z. refl)
 
-  pub stopped : (n : ℕ) → check ≡ Refused n → opening s l ≡ record { refusal = n; reach = l }
+  pub stopped : (r : Refusal) → check ≡ Err r → opening s l ≡ record { refusal = number r; reach = l }
   unfolding opening
-  stopped n e = ap (λ (k : Check). outcome k l (sheet_record s l.held.outlets)) e
+  stopped r e = ap (λ (k : Verdict). outcome k l (sheet_record s l.held.outlets)) e
 
-  pub accepted : check ≡ Pass → opening s l ≡ record { refusal = 0; reach = sheet_record s l.held.outlets }
+  pub accepted : check ≡ Ok tt → opening s l ≡ record { refusal = 0; reach = sheet_record s l.held.outlets }
   unfolding opening
-  accepted e = ap (λ (k : Check). outcome k l (sheet_record s l.held.outlets)) e
+  accepted e = ap (λ (k : Verdict). outcome k l (sheet_record s l.held.outlets)) e
 
   -- a refused opening leaves the lent columns and outlets as they came
-  pub stayed : (n : ℕ) {r : OpenAnswer} → l ≡ lent l.bed l.depth l.discharge l.mass l.base l.carried l.held.outlets → check ≡ Refused n
-      → r ≡ unopened_by n l.held.outlets
+  pub stayed : (n : Refusal) {r : OpenAnswer} → l ≡ lent l.bed l.depth l.discharge l.mass l.base l.carried l.held.outlets → check ≡ Err n
+      → r ≡ unopened_by (number n) l.held.outlets
       → OpenCameTo (opening s l) r l.bed l.depth l.discharge l.mass l.base l.carried
   stayed n {r} k e f =
       let o = stopped n e in
@@ -210,8 +208,8 @@ opened_totals : (s : List ℕ) (os : Outlets) → os.count ≤ outlets_most → 
 unfolding all_totals_fit
 opened_totals s os few = on _ _ empty_fits (only _ ∙ cleared_totals os few)
 
-module _ (s : List ℕ) (z h q m b c : ℕ) (os : Outlets) (e : first_refusal (open_grounds s z h q m b c os) ≡ Pass) where
-  ground_at : (k : ℕ) → (get_or (open_grounds s z h q m b c os) k (ground 0 true)).stands ≡ true
+module _ (s : List ℕ) (z h q m b c : ℕ) (os : Outlets) (e : first_refusal (open_grounds s z h q m b c os) ≡ Ok tt) where
+  ground_at : (k : ℕ) → (get_or (open_grounds s z h q m b c os) k (ground refusal.Edition true)).stands ≡ true
   ground_at = stood (open_grounds s z h q m b c os) e
 
   outlets_count : os.count ≤ outlets_most
@@ -251,7 +249,7 @@ module _ (s : List ℕ) (z h q m b c : ℕ) (os : Outlets) (e : first_refusal (o
       }
 
 pub opened_stands : (s : List ℕ) (l : Reach) (gs : List Boundary) → (opening s l).refusal ≡ 0 → boundaries_fit gs ≡ true
-    → first_refusal (record_grounds (opening s l).reach gs) ≡ Pass
+    → first_refusal (record_grounds (opening s l).reach gs) ≡ Ok tt
 opened_stands s l gs e g =
     let p = opened_passes s l e in
     rw (accepted s l p) (stands (sheet_record s l.held.outlets) gs (opened_sound s _ _ _ _ _ _ l.held.outlets p) g)

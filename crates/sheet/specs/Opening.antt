@@ -12,6 +12,7 @@ use Rattle.reach.specs.declared.ledger.Ledger.{Ledger}
 use Rattle.encoding.specs.FromBytes.{twos, column_at}
 use Rattle.sheet.specs.Header.{count_of, cell_length_of, beds_at, depths_at, discharges_at, masses_at, boundaries_of, edition_fits, size_fits, spans_of, columns_clear}
 use Rattle.sheet.specs.declared.opening.OpenAnswer.{OpenAnswer}
+use Rattle.reach.specs.declared.refusal.Refusal.TheVariants as refusal
 
 -- an empty ledger (the paper's 'book')
 abbrev pub empty_totals : Totals
@@ -54,14 +55,14 @@ lent_fit n z h q m b c = all_of (eqb z n ∷ eqb h n ∷ eqb q n ∷ eqb m n ∷
 abbrev pub open_grounds : List ℕ → (bed depth discharge mass base carried : ℕ) → Outlets → List Ground
 open_grounds s z h q m b c os =
     let r = sheet_record s os in
-    ground 1 (edition_fits s)
-    ∷ ground 2 (size_fits s)
-    ∷ ground 3 (columns_clear (length s) (spans_of s))
-    ∷ ground 4 (lent_fit (count_of s) z h q m b c)
-    ∷ ground 5 (cell_length_fits (cell_length_of s))
-    ∷ ground 6 (boundaries_fit (boundaries_of s))
-    ∷ ground 7 (cells_fit r.bed r.depth r.discharge r.mass r.base)
-    ∷ ground 16 (outlets_fit (count_of s) os)
+    ground refusal.Edition (edition_fits s)
+    ∷ ground refusal.Size (size_fits s)
+    ∷ ground refusal.Layout (columns_clear (length s) (spans_of s))
+    ∷ ground refusal.Lengths (lent_fit (count_of s) z h q m b c)
+    ∷ ground refusal.CellLength (cell_length_fits (cell_length_of s))
+    ∷ ground refusal.Boundaries (boundaries_fit (boundaries_of s))
+    ∷ ground refusal.Values (cells_fit r.bed r.depth r.discharge r.mass r.base)
+    ∷ ground refusal.Outlets (outlets_fit (count_of s) os)
     ∷ []
 
 -- an opening that none of them stops leaves the sheet's record in the lent columns, with the outlets lent; a refused one leaves all of them as they came

@@ -8,7 +8,7 @@ ghost use Rattle.sheet.specs.Ranges.{Offset, LayoutOf};
 use encoding::reading::{read_number, read_signed};
 use reach::boundary::Boundary;
 use reach::cells::CELLS_MOST;
-use reach::refusal::Check;
+use reach::refusal::Refusal;
 
 pub const HEADER_SIZE: usize = 80;
 
@@ -74,38 +74,24 @@ pub fn read_boundaries(s: &[u8]) -> [Boundary; 2]
 }
 
 // Ground 1
-pub fn check_edition(s: &[u8]) -> Check
-    ensures { result ≡ pass_or 1 (edition_fits s.now) }
+#[tactic(auto, unfolding(crate::specs::Header::edition_fits, numbers::specs::Index::all_of))]
+pub fn check_edition(s: &[u8]) -> Result<(), Refusal>
+    ensures { result ≡ pass_or Refusal.Edition (edition_fits s.now) }
 {
-    if s.len() < HEADER_SIZE {
-        return Check::Refused(1);
-    }
-    if read_number(s, 0, 4) != 1 {
-        return Check::Refused(1);
-    }
-    Check::Pass
+    Refusal::Edition.unless(HEADER_SIZE <= s.len() && read_number(s, 0, 4) == 1)
 }
 
 // Ground 2
-pub fn check_size(s: &[u8]) -> Check
+#[tactic(auto, unfolding(crate::specs::Header::size_fits, numbers::specs::Index::all_of))]
+pub fn check_size(s: &[u8]) -> Result<(), Refusal>
     requires { header_size ≤ length s.now }
-    ensures { result ≡ pass_or 2 (size_fits s.now) }
+    ensures { result ≡ pass_or Refusal.Size (size_fits s.now) }
 {
     let n = count_of(s);
     let size = read_number(s, 4, 4) as usize;
-    if n < 1 {
-        return Check::Refused(2);
-    }
-    if CELLS_MOST < n {
-        return Check::Refused(2);
-    }
-    if size != s.len() {
-        return Check::Refused(2);
-    }
-    if size != HEADER_SIZE + 24 * n {
-        return Check::Refused(2);
-    }
-    Check::Pass
+    Refusal::Size.unless(
+        1 <= n && n <= CELLS_MOST && size == s.len() && size == HEADER_SIZE + 24 * n,
+    )
 }
 
 // A column of `size` bytes from `start` on lies behind the header and before the end.
@@ -140,12 +126,9 @@ fn columns_clear(end: usize, n: usize, l: Layout) -> bool
 }
 
 // Ground 3
-pub fn check_columns(s: &[u8]) -> Check
+pub fn check_columns(s: &[u8]) -> Result<(), Refusal>
     requires { (header_size ≤ length s.now) × (count_of s.now ≤ cells_most) }
-    ensures { result ≡ pass_or 3 (columns_clear (length s.now) (spans_of s.now)) }
+    ensures { result ≡ pass_or Refusal.Layout (columns_clear (length s.now) (spans_of s.now)) }
 {
-    if !columns_clear(s.len(), count_of(s), layout_of(s)) {
-        return Check::Refused(3);
-    }
-    Check::Pass
+    Refusal::Layout.unless(columns_clear(s.len(), count_of(s), layout_of(s)))
 }

@@ -2,27 +2,27 @@
 ghost use Rattle.std.specs.Prelude.{◌≡◌, ◌+◌, ◌*◌, ◌≤◌, ◌<◌, pos, length, replicate};
 ghost use Rattle.numbers.specs.Index.{all_below};
 ghost use Rattle.outlet.specs.Outlets.{outlets_most};
-ghost use Rattle.reach.specs.Grounds.{first_refusal, number_of, pass_or};
+ghost use Rattle.reach.specs.Grounds.{first_refusal, pass_or};
+ghost use Rattle.reach.specs.Refusals.{number};
 ghost use Rattle.encoding.specs.FromBytes.{twos, column_at};
-ghost use Rattle.reach.specs.Reach.{came, no_boundary};
+ghost use Rattle.reach.specs.Reach.{came};
 ghost use Rattle.sheet.specs.Header.{header_size};
 ghost use Rattle.sheet.specs.Ranges.{Within, cell_at};
-ghost use Rattle.sheet.specs.Opening.{lent_fit, open_grounds, opening, empty_ledger, none_held, held_of, unopened_by, OpenCameTo};
+ghost use Rattle.sheet.specs.Opening.{lent_fit, open_grounds, opening, none_held, held_of, unopened_by, OpenCameTo};
 
 use super::header::{
     HALF_4, HALF_8, Layout, cell_length_of, check_columns, check_edition, check_size, count_of,
     layout_of, read_boundaries,
 };
 use encoding::reading::{read_column, read_number, read_signed, read_signed_column};
-use numbers::columns::{clear_column, copy_column};
 use outlet::Outlets;
 use outlet::clearing::clear;
 use reach::boundary::{Boundary, check_boundaries};
 use reach::cells::{cell_fits, check_cell_length};
 use reach::held::Held;
-use reach::ledger::{Ledger, Totals};
+use reach::ledger::Ledger;
 use reach::outlets::check_outlets;
-use reach::refusal::Check;
+use reach::refusal::Refusal;
 
 // What an opening hands back: 0 or the number of its refusal, X in mm, both boundaries, an empty ledger, and the outlets that it was lent, cleared.
 // Of a refused opening the outlets are as they were lent, and all else but the number is 0.
@@ -35,6 +35,7 @@ pub struct OpenAnswer {
 }
 
 // Ground 4, of the lengths of the lent columns
+#[tactic(auto, unfolding(crate::specs::Opening::lent_fit, numbers::specs::Index::all_of))]
 fn check_lent(
     n: usize,
     bed: usize,
@@ -43,29 +44,13 @@ fn check_lent(
     mass: usize,
     base: usize,
     carried: usize,
-) -> Check
+) -> Result<(), Refusal>
     requires { n ≤ 1_000_000 }
-    ensures { result ≡ pass_or 4 (lent_fit n bed depth discharge mass base carried) }
+    ensures { result ≡ pass_or Refusal.Lengths (lent_fit n bed depth discharge mass base carried) }
 {
-    if bed != n {
-        return Check::Refused(4);
-    }
-    if depth != n {
-        return Check::Refused(4);
-    }
-    if discharge != n {
-        return Check::Refused(4);
-    }
-    if mass != n {
-        return Check::Refused(4);
-    }
-    if base != n {
-        return Check::Refused(4);
-    }
-    if carried != n + 1 {
-        return Check::Refused(4);
-    }
-    Check::Pass
+    Refusal::Lengths.unless(
+        bed == n && depth == n && discharge == n && mass == n && base == n && carried == n + 1,
+    )
 }
 
 // The values of cell i are in range; its base depth is its depth.
@@ -84,21 +69,20 @@ fn cell_at(s: &[u8], l: Layout, n: usize, i: usize) -> bool
 }
 
 // Ground 7
-fn check_values(s: &[u8], l: Layout, n: usize) -> Check
+fn check_values(s: &[u8], l: Layout, n: usize) -> Result<(), Refusal>
     requires { Within s.now l n }
-    ensures { result ≡ pass_or 7 (all_below n (cell_at s.now l)) }
+    ensures { result ≡ pass_or Refusal.Values (all_below n (cell_at s.now l)) }
 {
-    let mut i = 0;
-    while i < n {
+    for i in 0..n {
         if !cell_at(s, l, n, i) {
-            return Check::Refused(7);
+            return Err(Refusal::Values);
         }
-        i += 1;
     }
-    Check::Pass
+    Ok(())
 }
 
 // Grounds 1 to 7 and 16, of a sheet, the lengths of the lent columns and the outlets
+#[tactic(auto, unfolding(reach::specs::Grounds::first_refusal))]
 fn check_opening(
     s: &[u8],
     bed: usize,
@@ -108,35 +92,18 @@ fn check_opening(
     base: usize,
     carried: usize,
     outlets: Outlets,
-) -> Check
+) -> Result<(), Refusal>
     ensures { result ≡ first_refusal (open_grounds s.now bed depth discharge mass base carried outlets) }
 {
-    let Check::Pass = check_edition(s) else {
-        return Check::Refused(1);
-    };
-    let Check::Pass = check_size(s) else {
-        return Check::Refused(2);
-    };
-    let Check::Pass = check_columns(s) else {
-        return Check::Refused(3);
-    };
+    check_edition(s)?;
+    check_size(s)?;
+    check_columns(s)?;
     let n = count_of(s);
-    let Check::Pass = check_lent(n, bed, depth, discharge, mass, base, carried) else {
-        return Check::Refused(4);
-    };
-    let Check::Pass = check_cell_length(cell_length_of(s)) else {
-        return Check::Refused(5);
-    };
-    let Check::Pass = check_boundaries(read_boundaries(s)) else {
-        return Check::Refused(6);
-    };
-    let Check::Pass = check_values(s, layout_of(s), n) else {
-        return Check::Refused(7);
-    };
-    let Check::Pass = check_outlets(n, outlets) else {
-        return Check::Refused(16);
-    };
-    Check::Pass
+    check_lent(n, bed, depth, discharge, mass, base, carried)?;
+    check_cell_length(cell_length_of(s))?;
+    check_boundaries(read_boundaries(s))?;
+    check_values(s, layout_of(s), n)?;
+    check_outlets(n, outlets)
 }
 
 // The sheet's values, b = h, c = 0. Nothing refuses any more.
@@ -163,66 +130,28 @@ fn fill(
     read_column(s, l.depths, 4, depth);
     read_signed_column(s, l.discharges, 8, HALF_8, discharge);
     read_column(s, l.masses, 8, mass);
-    copy_column(base, depth);
-    clear_column(carried);
-}
-
-fn no_boundary() -> Boundary
-    ensures { result ≡ no_boundary }
-{
-    Boundary {
-        kind: 0,
-        reserved: 0,
-        depth: 0,
-        concentration: 0,
-        discharge: 0,
-    }
-}
-
-fn empty_ledger() -> Ledger
-    ensures { result ≡ empty_ledger }
-{
-    let none = Totals {
-        water_in: 0,
-        water_out: 0,
-        mass_in: 0,
-        mass_out: 0,
-    };
-    Ledger {
-        left: none,
-        right: none,
-    }
+    base.copy_from_slice(depth);
+    carried.fill(0);
 }
 
 // An opening is given no boundaries and no ledger; its outlets are those that it is lent
 fn none_held(outlets: Outlets) -> Held
     ensures { result ≡ none_held outlets }
 {
-    let none = no_boundary();
-    let boundaries = [none, none];
-    let ledger = empty_ledger();
     Held {
-        boundaries,
-        ledger,
+        boundaries: [Boundary::default(); 2],
+        ledger: Ledger::default(),
         outlets,
     }
 }
 
-fn unopened(k: Check, outlets: Outlets) -> OpenAnswer
-    ensures { result ≡ unopened_by (number_of k) outlets }
+fn unopened(r: Refusal, outlets: Outlets) -> OpenAnswer
+    ensures { result ≡ unopened_by (number r) outlets }
 {
-    let held = none_held(outlets);
-    let Check::Refused(n) = k else {
-        return OpenAnswer {
-            refusal: 0,
-            cell_length: 0,
-            held,
-        };
-    };
     OpenAnswer {
-        refusal: n,
+        refusal: r.into(),
         cell_length: 0,
-        held,
+        held: none_held(outlets),
     }
 }
 
@@ -232,13 +161,10 @@ fn held_of(s: &[u8], lent: Outlets) -> Held
     requires count_le_outlets_most { lent.count ≤ outlets_most }
     ensures { result ≡ held_of s.now lent }
 {
-    let boundaries = read_boundaries(s);
-    let ledger = empty_ledger();
-    let outlets = clear(lent);
     Held {
-        boundaries,
-        ledger,
-        outlets,
+        boundaries: read_boundaries(s),
+        ledger: Ledger::default(),
+        outlets: clear(lent),
     }
 }
 
@@ -255,7 +181,7 @@ pub fn open_sheet(
 ) -> OpenAnswer
     ensures { OpenCameTo (opening s.now (came bed.old depth.old discharge.old mass.old base.old carried.old 0 (none_held outlets))) result bed.new depth.new discharge.new mass.new base.new carried.new }
 {
-    let checked = check_opening(
+    if let Err(r) = check_opening(
         s,
         bed.len(),
         depth.len(),
@@ -264,10 +190,9 @@ pub fn open_sheet(
         base.len(),
         carried.len(),
         outlets,
-    );
-    let Check::Pass = checked else {
-        return unopened(checked, outlets);
-    };
+    ) {
+        return unopened(r, outlets);
+    }
     fill(s, layout_of(s), bed, depth, discharge, mass, base, carried);
     OpenAnswer {
         refusal: 0,

@@ -39,9 +39,11 @@ use Rattle.reach.specs.declared.boundary.Boundary.{Boundary}
 use Rattle.reach.specs.declared.boundary.BoundaryPlace.{BoundaryPlace}
 use Rattle.reach.specs.declared.boundary.BoundaryPlace.TheVariants.{Left, Right}
 use Rattle.reach.specs.declared.ledger.Ledger.{Ledger}
-use Rattle.reach.specs.declared.refusal.Check.{Check}
-use Rattle.reach.specs.declared.refusal.Check.TheVariants.{Pass, Refused}
-use Rattle.reach.proofs.GroundsLaws.{go_on, stop_at, last_one, further, no_further, numbered, refused_number}
+use Rattle.reach.specs.Grounds.{Verdict}
+use Rattle.reach.specs.Refusals.{number}
+use Rattle.reach.specs.declared.refusal.Refusal.{Refusal}
+use Rattle.stepping.specs.declared.step.StepAnswer.{StepAnswer}
+use Rattle.reach.proofs.GroundsLaws.{go_on, stop_at, last_one, further, no_further, number_above}
 use Rattle.reach.proofs.OutletLaws.{one_drawn}
 use Rattle.reach.proofs.PartsLaws.{outflow_is}
 use Rattle.reach.proofs.Sound.{Sound, outlets_few, outlet_sound}
@@ -61,6 +63,8 @@ use Rattle.update.proofs.StepLaws.{by_step, transported_count, water_fits as out
 use Rattle.update.specs.Step.{summed, keeps_sums, transported_first, with_boundary_water, step_ledger, stepped_outlet, step_outlets, step_held, after_step, time_fits, depths_fit, step_grounds, step, transports}
 use Rattle.stepping.specs.StepCall.{stopped_by, StepCameTo}
 use Rattle.stepping.specs.Ranges.{Summable, sums_kept, BoundaryMassWhen, outlet_with, with_draws, Room, StepFound}
+use Rattle.std.specs.Prelude.{Ok, Err}
+use Rattle.reach.specs.declared.refusal.Refusal.TheVariants as refusal
 
 -- ---- what a sound record owes the sweep
 
@@ -500,47 +504,42 @@ module _ (s : Reach) (k : Sound s) (t : ℕ) where
 
 -- ---- what each outcome is
 
--- no ground has the number 0
-pub refused_positive : (s : Reach) (n : ℕ) → first_refusal (record_grounds s s.held.boundaries) ≡ Refused n → 0 < n
-unfolding numbered
-refused_positive s n e = refused_number (record_grounds s s.held.boundaries) n refl e
-
 module _ (s : Reach) (t F : ℕ) where
-  pub stopped_before : (n : ℕ) → first_refusal (record_grounds s s.held.boundaries) ≡ Refused n → step s t F ≡ record { refusal = n; reach = s }
+  pub stopped_before : (r : Refusal) → first_refusal (record_grounds s s.held.boundaries) ≡ Err r → step s t F ≡ record { refusal = number r; reach = s }
   unfolding step
-  stopped_before n e = ap (λ (k : Check). outcome k s (after_step s t F)) (no_further (record_grounds s s.held.boundaries) _ n e)
+  stopped_before r e = ap (λ (k : Verdict). outcome k s (after_step s t F)) (no_further (record_grounds s s.held.boundaries) _ r e)
 
-  module _ (e : first_refusal (record_grounds s s.held.boundaries) ≡ Pass) where
+  module _ (e : first_refusal (record_grounds s s.held.boundaries) ≡ Ok tt) where
     pub stopped_10 : time_fits t ≡ false → step s t F ≡ record { refusal = 10; reach = s }
     unfolding step
-    stopped_10 f = ap (λ (k : Check). outcome k s (after_step s t F)) (further (record_grounds s s.held.boundaries) _ e ∙ stop_at _ _ f)
+    stopped_10 f = ap (λ (k : Verdict). outcome k s (after_step s t F)) (further (record_grounds s s.held.boundaries) _ e ∙ stop_at _ _ f)
 
     pub stopped_17 : time_fits t ≡ true → strickler_fits F ≡ false → step s t F ≡ record { refusal = 17; reach = s }
     unfolding step
-    stopped_17 time f = ap (λ (k : Check). outcome k s (after_step s t F)) (further (record_grounds s s.held.boundaries) _ e ∙ go_on _ _ time (stop_at _ _ f))
+    stopped_17 time f = ap (λ (k : Verdict). outcome k s (after_step s t F)) (further (record_grounds s s.held.boundaries) _ e ∙ go_on _ _ time (stop_at _ _ f))
 
     module _ (time : time_fits t ≡ true) (rough : strickler_fits F ≡ true) where
       pub stopped_11 : meets_cfl (place_speed s) (cells s + 1) s.cell_length t ≡ false → step s t F ≡ record { refusal = 11; reach = s }
       unfolding step
-      stopped_11 f = ap (λ (k : Check). outcome k s (after_step s t F)) (further (record_grounds s s.held.boundaries) _ e ∙ go_on _ _ time (go_on _ _ rough (stop_at _ _ f)))
+      stopped_11 f = ap (λ (k : Verdict). outcome k s (after_step s t F)) (further (record_grounds s s.held.boundaries) _ e ∙ go_on _ _ time (go_on _ _ rough (stop_at _ _ f)))
 
       module _ (cfl : meets_cfl (place_speed s) (cells s + 1) s.cell_length t ≡ true) where
         pub stopped_12 : depths_fit s t ≡ false → step s t F ≡ record { refusal = 12; reach = s }
         unfolding step
-        stopped_12 f = ap (λ (k : Check). outcome k s (after_step s t F)) (further (record_grounds s s.held.boundaries) _ e ∙ go_on _ _ time (go_on _ _ rough (go_on _ _ cfl (stop_at _ _ f))))
+        stopped_12 f = ap (λ (k : Verdict). outcome k s (after_step s t F)) (further (record_grounds s s.held.boundaries) _ e ∙ go_on _ _ time (go_on _ _ rough (go_on _ _ cfl (stop_at _ _ f))))
 
         module _ (deep : depths_fit s t ≡ true) where
-          at_last : (b : Bool) → all_totals_fit (step_held s t) ≡ b → first_refusal (step_grounds s t F) ≡ pass_or 13 b
+          at_last : (b : Bool) → all_totals_fit (step_held s t) ≡ b → first_refusal (step_grounds s t F) ≡ pass_or refusal.Total b
           at_last b f =
-              further (record_grounds s s.held.boundaries) _ e ∙ go_on _ _ time (go_on _ _ rough (go_on _ _ cfl (go_on _ _ deep (last_one 13 (all_totals_fit (step_held s t)) ∙ ap (pass_or 13) f))))
+              further (record_grounds s s.held.boundaries) _ e ∙ go_on _ _ time (go_on _ _ rough (go_on _ _ cfl (go_on _ _ deep (last_one refusal.Total (all_totals_fit (step_held s t)) ∙ ap (pass_or refusal.Total) f))))
 
           pub stopped_13 : all_totals_fit (step_held s t) ≡ false → step s t F ≡ record { refusal = 13; reach = s }
           unfolding step
-          stopped_13 f = ap (λ (k : Check). outcome k s (after_step s t F)) (at_last false f)
+          stopped_13 f = ap (λ (k : Verdict). outcome k s (after_step s t F)) (at_last false f)
 
           pub stepped_on : all_totals_fit (step_held s t) ≡ true → step s t F ≡ record { refusal = 0; reach = after_step s t F }
           unfolding step
-          stepped_on f = ap (λ (k : Check). outcome k s (after_step s t F)) (at_last true f)
+          stepped_on f = ap (λ (k : Verdict). outcome k s (after_step s t F)) (at_last true f)
 
   -- a refused step leaves everything as it came
   pub stayed : (n : ℕ) → 0 < n → step s t F ≡ record { refusal = n; reach = s }
@@ -558,6 +557,12 @@ module _ (s : Reach) (t F : ℕ) where
         base_is = ap (λ (o : Outcome). o.reach.base) (sym e);
         carried_is = ap (λ (o : Outcome). o.reach.carried) (sym e);
       }
+
+  -- the same of an answer by the refusal r, which is m
+  pub stays_by : (m r : Refusal) (a : StepAnswer) → r ≡ m → a ≡ stopped_by (number r) s.held → step s t F ≡ record { refusal = number m; reach = s }
+      → StepCameTo s t F a s.depth s.discharge s.mass s.base s.carried
+  stays_by m r a x e f =
+      subst (λ (a : StepAnswer). StepCameTo s t F a s.depth s.discharge s.mass s.base s.carried) (sym (e ∙ ap (λ (r : Refusal). stopped_by (number r) s.held) x)) (stayed (number m) (number_above m) f)
 
   pub transports_is : step s t F ≡ record { refusal = 0; reach = after_step s t F } → transports s t F ≡ not (keeps_sums s t)
   unfolding transports

@@ -18,8 +18,7 @@ fn with_water(t: Totals, gained: u64, lost: u64) -> Totals
     Totals {
         water_in: t.water_in + gained,
         water_out: t.water_out + lost,
-        mass_in: t.mass_in,
-        mass_out: t.mass_out,
+        ..t
     }
 }
 
@@ -29,14 +28,10 @@ pub fn enter_step(k: Ledger, x: BoundaryMass, first: i64, last: i64) -> Ledger
     requires first_bound { (nat_abs first ≤ flux_most) × (nat_abs last ≤ flux_most) }
     ensures { result ≡ with_boundary_water (ledger_with k x.left_in x.left_out x.right_in x.right_out) first last }
 {
-    let left = k.left;
-    let right = k.right;
-    let moved_left = with_mass(left, x.left_in, x.left_out);
-    let moved_right = with_mass(right, x.right_in, x.right_out);
-    let next_left = with_water(moved_left, right_part(first), left_part(first));
-    let next_right = with_water(moved_right, left_part(last), right_part(last));
+    let moved_left = with_mass(k.left, x.left_in, x.left_out);
+    let moved_right = with_mass(k.right, x.right_in, x.right_out);
     Ledger {
-        left: next_left,
-        right: next_right,
+        left: with_water(moved_left, right_part(first), left_part(first)),
+        right: with_water(moved_right, left_part(last), right_part(last)),
     }
 }

@@ -38,11 +38,11 @@ pub fn deal_out(held: Held, given: &[u64]) -> [u64; 32]
     if held.outlets.count == 0 {
         return [0u64; 32];
     }
-    let outlets = held.outlets;
+    // no heap: room for the longest reach
     let mut wanted = [0u64; CELLS_MOST];
     let mut left = [0u64; CELLS_MOST];
     wants_by_cell(held, &mut wanted);
-    deal(outlets, &wanted, given, &mut left)
+    deal(held.outlets, &wanted, given, &mut left)
 }
 
 fn outlet_with(o: Outlet, got: u64) -> Outlet
@@ -50,11 +50,9 @@ fn outlet_with(o: Outlet, got: u64) -> Outlet
     ensures { result ≡ record { cell = o.cell; want = o.want; drawn = o.drawn + got; water = o.water + got; mass = o.mass } }
 {
     Outlet {
-        cell: o.cell,
-        want: o.want,
         drawn: o.drawn + got,
         water: o.water + got,
-        mass: o.mass,
+        ..o
     }
 }
 
@@ -65,11 +63,8 @@ pub fn draw(outlets: Outlets, got: [u64; 32]) -> Outlets
 {
     let count = outlets.count;
     let mut list = outlets.list;
-    let mut k = 0;
-    while k < count {
-        let o = list[k];
-        list[k] = outlet_with(o, got[k]);
-        k += 1;
+    for (k, o) in list[..count].iter_mut().enumerate() {
+        *o = outlet_with(*o, got[k]);
     }
     Outlets { count, list }
 }

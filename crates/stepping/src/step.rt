@@ -6,13 +6,13 @@ ghost use Rattle.friction.specs.Friction.{strickler_fits};
 ghost use Rattle.reach.specs.Reach.{reach_of, came, with_totals};
 ghost use Rattle.reach.specs.Parts.{drawn_from};
 ghost use Rattle.reach.specs.Ranges.{undrawn};
-ghost use Rattle.reach.specs.Grounds.{first_refusal, record_grounds, ledger_fits, number_of, pass_or};
+ghost use Rattle.reach.specs.Grounds.{first_refusal, record_grounds, ledger_fits, pass_or};
 ghost use Rattle.mass.specs.Transport.{mass_columns, moved_outlets};
 ghost use Rattle.mass.specs.Ranges.{Ready, OutletsReady};
 ghost use Rattle.transport.specs.Calls.{ledger_with};
 ghost use Rattle.transport.specs.Ranges.{mass_columns_with, Small};
 ghost use Rattle.water.specs.Ranges.{flux_most};
-ghost use Rattle.reach.specs.declared.refusal.Check.TheVariants.{Pass};
+ghost use Rattle.reach.specs.Refusals.{number};
 ghost use Rattle.update.specs.Step.{with_boundary_water, time_fits};
 ghost use Rattle.stepping.specs.Ranges.{BoundaryMassWhen, Room, with_draws, StepPasses, StepFound};
 ghost use Rattle.stepping.specs.StepCall.{stopped_by, StepCameTo};
@@ -22,11 +22,11 @@ use super::outlets::{deal_out, draw, wants_by_cell};
 use super::transporting::{boundary_mass_when, keeps_sums, move_outlets_when, transport_when};
 use friction::strickler_fits;
 use mass::outlets::take_gains;
-use numbers::columns::{add_column, copy_first, copy_first_signed};
+use numbers::columns::add_column;
 use reach::cells::CELLS_MOST;
 use reach::check_record;
 use reach::held::Held;
-use reach::refusal::Check;
+use reach::refusal::Refusal;
 use sweeping::sweep;
 use transport::{BoundaryMass, check_room};
 
@@ -40,61 +40,35 @@ pub struct StepAnswer {
     pub transported: bool,
 }
 
-fn stopped(n: u32, held: Held) -> StepAnswer
-    ensures { result ≡ stopped_by n held }
+fn refused(r: Refusal, held: Held) -> StepAnswer
+    ensures { result ≡ stopped_by (number r) held }
 {
     StepAnswer {
-        refusal: n,
+        refusal: r.into(),
         held,
         transported: false,
     }
 }
 
-fn refused(k: Check, held: Held) -> StepAnswer
-    ensures { result ≡ stopped_by (number_of k) held }
-{
-    let Check::Refused(n) = k else {
-        return stopped(0, held);
-    };
-    stopped(n, held)
-}
-
 // Ground 10
-fn check_time(t: u64) -> Check
-    ensures { result ≡ pass_or 10 (time_fits t) }
+#[tactic(auto, unfolding(update::specs::Step::time_fits, numbers::specs::Index::all_of))]
+fn check_time(t: u64) -> Result<(), Refusal>
+    ensures { result ≡ pass_or Refusal.TimeStep (time_fits t) }
 {
-    if t < 1 {
-        return Check::Refused(10);
-    }
-    if 1_000 < t {
-        return Check::Refused(10);
-    }
-    Check::Pass
-}
-
-// Ground 17, after 10
-fn check_strickler(f: u64) -> Check
-    ensures { result ≡ pass_or 17 (strickler_fits f) }
-{
-    if !strickler_fits(f) {
-        return Check::Refused(17);
-    }
-    Check::Pass
+    Refusal::TimeStep.unless(1 <= t && t <= 1_000)
 }
 
 // Ground 12, of the first n depths
-fn check_depths(depth: &[u64], n: usize) -> Check
+fn check_depths(depth: &[u64], n: usize) -> Result<(), Refusal>
     requires { n ≤ length depth.now }
-    ensures { result ≡ pass_or 12 (all_below n (λ i. leb (get_or depth.now i 0) depth_most)) }
+    ensures { result ≡ pass_or Refusal.Depth (all_below n (λ i. leb (get_or depth.now i 0) depth_most)) }
 {
-    let mut i = 0;
-    while i < n {
+    for i in 0..n {
         if 4_000_000 < depth[i] {
-            return Check::Refused(12);
+            return Err(Refusal::Depth);
         }
-        i += 1;
     }
-    Check::Pass
+    Ok(())
 }
 
 // The water of an accepted step: depth and discharge as the sweep found them, and N added to the carried water
@@ -112,8 +86,8 @@ fn write_step(
     ensures discharge_after { discharge.new ≡ tabulate (length discharge.old) (λ i. get_or new_discharge.now i (pos 0)) }
     ensures carried_after { carried.new ≡ tabulate (length carried.old) (λ i. get_or carried.old i (pos 0) +ℤ get_or net.now i (pos 0)) }
 {
-    copy_first(depth, new_depth);
-    copy_first_signed(discharge, new_discharge);
+    depth.copy_from_slice(&new_depth[..depth.len()]);
+    discharge.copy_from_slice(&new_discharge[..discharge.len()]);
     add_column(carried, net);
 }
 
@@ -179,7 +153,7 @@ fn complete(
     new_discharge: &[i64],
     got: [u64; 32],
 ) -> StepAnswer
-    requires boundaries_value { first_refusal (record_grounds (reach_of bed.now depth.old discharge.old mass.old base.old carried.old x held) held.boundaries) ≡ Pass }
+    requires boundaries_value { first_refusal (record_grounds (reach_of bed.now depth.old discharge.old mass.old base.old carried.old x held) held.boundaries) ≡ Ok tt }
     requires step_passes { StepPasses (reach_of bed.now depth.old discharge.old mass.old base.old carried.old x held) t f }
     requires step_found { StepFound (reach_of bed.now depth.old discharge.old mass.old base.old carried.old x held) t f net.now new_depth.now new_discharge.now got }
     ensures { StepCameTo (came bed.now depth.old discharge.old mass.old base.old carried.old x held) t f result depth.new discharge.new mass.new base.new carried.new }
@@ -189,9 +163,9 @@ fn complete(
     let booked = book(transports, mass, base, carried, held, got, net[0], net[n]);
     let after = booked.held;
     let crossed = booked.crossed;
-    let Check::Pass = check_room(after) else {
-        return stopped(13, held);
-    };
+    if let Err(r) = check_room(after) {
+        return refused(r, held);
+    }
     transport_when(
         transports,
         depth,
@@ -232,18 +206,19 @@ fn advance(
     t: u64,
     f: u64,
 ) -> StepAnswer
-    requires boundaries_value { first_refusal (record_grounds (reach_of bed.now depth.old discharge.old mass.old base.old carried.old x held) held.boundaries) ≡ Pass }
+    requires boundaries_value { first_refusal (record_grounds (reach_of bed.now depth.old discharge.old mass.old base.old carried.old x held) held.boundaries) ≡ Ok tt }
     requires t_value { (time_fits t ≡ true) × (strickler_fits f ≡ true) }
     ensures { StepCameTo (came bed.now depth.old discharge.old mass.old base.old carried.old x held) t f result depth.new discharge.new mass.new base.new carried.new }
 {
     let boundaries = held.boundaries;
     let n = bed.len();
+    // no heap: room for the longest reach
     let mut net = [0i64; CELLS_MOST + 1];
     let mut given = [0u64; CELLS_MOST];
     let mut new_depth = [0u64; CELLS_MOST];
     let mut new_discharge = [0i64; CELLS_MOST];
     wants_by_cell(held, &mut given);
-    let Check::Pass = sweep(
+    if let Err(r) = sweep(
         t,
         f,
         x,
@@ -255,12 +230,12 @@ fn advance(
         &mut given,
         &mut new_depth,
         &mut new_discharge,
-    ) else {
-        return stopped(11, held);
-    };
-    let Check::Pass = check_depths(&new_depth, n) else {
-        return stopped(12, held);
-    };
+    ) {
+        return refused(r, held);
+    }
+    if let Err(r) = check_depths(&new_depth, n) {
+        return refused(r, held);
+    }
     let got = deal_out(held, &given);
     complete(
         bed,
@@ -296,17 +271,16 @@ pub fn step(
     ensures { StepCameTo (came bed.now depth.old discharge.old mass.old base.old carried.old x held) t f result depth.new discharge.new mass.new base.new carried.new }
 {
     let boundaries = held.boundaries;
-    let checked = check_record(
+    if let Err(r) = check_record(
         bed, depth, discharge, mass, base, carried, x, held, boundaries,
-    );
-    let Check::Pass = checked else {
-        return refused(checked, held);
-    };
-    let Check::Pass = check_time(t) else {
-        return stopped(10, held);
-    };
-    let Check::Pass = check_strickler(f) else {
-        return stopped(17, held);
-    };
+    ) {
+        return refused(r, held);
+    }
+    if let Err(r) = check_time(t) {
+        return refused(r, held);
+    }
+    if let Err(r) = Refusal::Strickler.unless(strickler_fits(f)) {
+        return refused(r, held);
+    }
     advance(bed, depth, discharge, mass, base, carried, x, held, t, f)
 }

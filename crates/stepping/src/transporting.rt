@@ -28,8 +28,7 @@ pub fn keeps_sums(n: usize, carried: &[i64], net: &[i64], new_depth: &[u64]) -> 
     requires { Summable n carried.now net.now × (n ≤ length new_depth.now) }
     ensures { result ≡ sums_kept n carried.now net.now new_depth.now }
 {
-    let mut i = 0;
-    while i < n {
+    for i in 0..n {
         if !covers(
             new_depth[i],
             sum_of(carried[i], net[i]),
@@ -37,7 +36,6 @@ pub fn keeps_sums(n: usize, carried: &[i64], net: &[i64], new_depth: &[u64]) -> 
         ) {
             return false;
         }
-        i += 1;
     }
     true
 }
@@ -55,12 +53,7 @@ pub fn boundary_mass_when(
     ensures { BoundaryMassWhen transports (mass_columns_with mass.now base.now carried.now undrawn boundaries) result.left_in result.left_out result.right_in result.right_out }
 {
     if !transports {
-        return BoundaryMass {
-            left_in: 0,
-            left_out: 0,
-            right_in: 0,
-            right_out: 0,
-        };
+        return BoundaryMass::default();
     }
     boundary_mass_of(mass, base, carried, boundaries)
 }

@@ -4,7 +4,6 @@
 
 ghost use Rattle.std.specs.Prelude.{◌≡◌, cond, ◌&&◌, ℕ, ◌+◌, ◌-◌, ◌*◌, ◌≤◌, ◌<◌, min, eqb, ltb, pos, ◌+ℤ◌, ◌-ℤ◌, nat_abs, length, get_or};
 ghost use Rattle.std.proofs.Math.IntN.{sub_ℕ};
-ghost use Rattle.numbers.specs.Table.{RootTable};
 ghost use Rattle.flux.specs.Limits.{depth_most, velocity_most, time_step_most};
 ghost use Rattle.flux.specs.Ranges.{Mesh};
 ghost use Rattle.friction.specs.Friction.{drag, slowed_by};
@@ -18,11 +17,11 @@ ghost use Rattle.water.specs.Water.{nearest};
 
 use flux::crossing::span_of;
 use friction::conveyance_squared;
-use friction::table::four_thirds;
-use numbers::root::root_table;
-use numbers::signed::{excess, joined};
+use friction::table::FourThirds;
+use numbers::root::SquareRoots;
+use numbers::signed::joined;
 use reach::boundary::{Boundary, BoundaryPlace};
-use reach::refusal::Check;
+use reach::refusal::Refusal;
 use water::{
     Exchange, SideState, boundary_state, cell_state, discharge_after, exchange_between,
     exchange_level,
@@ -41,10 +40,7 @@ fn still_meets(met: bool, t: u64, x: u64, c: SideState) -> bool
     requires { Mesh t x × SideStateFits c }
     ensures { result ≡ (met && side_meets t x (side_of c)) }
 {
-    if !met {
-        return false;
-    }
-    t * (speed_of(c) + c.wave) <= 1_000 * x
+    met && t * (speed_of(c) + c.wave) <= 1_000 * x
 }
 
 // Cell i, or the right boundary beside the cell before it
@@ -55,13 +51,12 @@ fn right_side(
     boundary: Boundary,
     before: SideState,
     i: usize,
-    roots: &[u16; 64],
+    roots: &SquareRoots,
 ) -> SideState
     requires depth_len { (length depth.now ≡ length bed.now) × (length discharge.now ≡ length bed.now) }
     requires in_range { i < length bed.now → InRange (get_or bed.now i (pos 0)) (get_or depth.now i 0) (get_or discharge.now i (pos 0)) }
     requires side_state_fits { SideStateFits before × ((boundary.depth ≤ depth_most) × (nat_abs boundary.discharge ≤ velocity_most * boundary.depth)) }
-    requires root_table { RootTable roots.now }
-    ensures { SideStateFits result × (side_of result ≡ cond (ltb i (length bed.entry.now)) (record { bed = get_or bed.entry.now i (pos 0); depth = get_or depth.now i 0; velocity = velocity (get_or depth.now i 0) (get_or discharge.now i (pos 0)) }) (boundary_side Right boundary (side_of before))) }
+    ensures { SideStateFits result × (side_of result ≡ cond (ltb i (length bed.now)) (record { bed = get_or bed.now i (pos 0); depth = get_or depth.now i 0; velocity = velocity (get_or depth.now i 0) (get_or discharge.now i (pos 0)) }) (boundary_side Right boundary (side_of before))) }
 {
     if i < bed.len() {
         return cell_state(bed[i], depth[i], discharge[i], roots);
@@ -85,11 +80,7 @@ fn granted_of(h: u64, l: Exchange, r: Exchange, wanted: u64) -> u64
     if wanted == 0 {
         return 0;
     }
-    let available = excess(h, l.leftward + r.rightward);
-    if available < wanted {
-        return available;
-    }
-    wanted
+    h.saturating_sub(l.leftward + r.rightward).min(wanted)
 }
 
 // The depth of a cell after the step, by what crosses at its left and at its right and what it gives. CFL keeps the difference from being cut off
@@ -98,10 +89,7 @@ fn depth_after(h: u64, l: Exchange, r: Exchange, given: u64) -> u64
     requires { (h ≤ depth_most) × ((given ≤ h) × (ExchangeFits l × ExchangeFits r)) }
     ensures { result ≡ h + l.rightward + r.leftward - (l.leftward + r.rightward + given) }
 {
-    excess(
-        h + l.rightward + r.leftward,
-        l.leftward + r.rightward + given,
-    )
+    (h + l.rightward + r.leftward).saturating_sub(l.leftward + r.rightward + given)
 }
 
 // Its discharge after friction of its bed, over the depth that it then has; c is the cell before the step and d is D of its new depth
@@ -146,20 +134,7 @@ fn both_dry(l: SideState, r: SideState) -> bool
 fn stays_dry(dry: bool, next: SideState) -> bool
     ensures { result ≡ (dry && eqb next.depth 0) }
 {
-    if !dry {
-        return false;
-    }
-    next.depth == 0
-}
-
-// Ground 11
-fn check_cfl(met: bool) -> Check
-    ensures { result ≡ pass_or 11 met }
-{
-    if !met {
-        return Check::Refused(11);
-    }
-    Check::Pass
+    dry && next.depth == 0
 }
 
 // Ground 11, CFL at every side; N of each interface, what each cell gives, and its depth and discharge after the step. `given` comes with what is
@@ -176,26 +151,25 @@ pub fn sweep(
     given: &mut [u64],
     new_depth: &mut [u64],
     new_discharge: &mut [i64],
-) -> Check
+) -> Result<(), Refusal>
     requires mesh { Mesh t x × FlowFits (flow_of bed.now depth.now discharge.now x boundaries) }
     requires bed_in_bounds { (length bed.now < length net.old) × ((length bed.now ≤ length given.old) × ((length bed.now ≤ length new_depth.old) × (length bed.now ≤ length new_discharge.old))) }
     requires f_le_strickler_most { f ≤ strickler_most }
-    ensures value { result ≡ pass_or 11 (sides_meet (flow_of bed.now depth.now discharge.now x boundaries) t) }
+    ensures value { result ≡ pass_or Refusal.Cfl (sides_meet (flow_of bed.now depth.now discharge.now x boundaries) t) }
     ensures swept { Swept (flow_of bed.now depth.now discharge.now x boundaries) t f given.old net.new given.new new_depth.new new_discharge.new }
     ensures by_index { (i : ℕ) → length bed.now ≤ i → get_or given.new i 0 ≡ get_or given.old i 0 }
 {
     let n = bed.len();
-    let roots = root_table();
+    let roots = SquareRoots::new();
     let mut cell = cell_state(bed[0], depth[0], discharge[0], &roots);
     let beyond = boundary_state(BoundaryPlace::Left, boundaries[0], cell, &roots);
     let mut met = still_meets(still_meets(true, t, x, beyond), t, x, cell);
     let span = span_of(x);
     let mut left = exchange_level(t, x, span, beyond, cell);
     net[0] = net_of(left);
-    let powers = four_thirds();
+    let powers = FourThirds::new();
     let mut dry = false;
-    let mut i = 0;
-    while i < n {
+    for i in 0..n {
         let next = right_side(bed, depth, discharge, boundaries[1], cell, i + 1, &roots);
         if stays_dry(dry, next) {
             net[i + 1] = 0;
@@ -203,7 +177,6 @@ pub fn sweep(
             new_depth[i] = 0;
             new_discharge[i] = 0;
             cell = next;
-            i += 1;
             continue;
         }
         dry = both_dry(cell, next);
@@ -218,7 +191,6 @@ pub fn sweep(
         new_discharge[i] = momentum_after(f, d, t, cell, discharge[i], left, right, deep);
         cell = next;
         left = right;
-        i += 1;
     }
-    check_cfl(met)
+    Refusal::Cfl.unless(met)
 }

@@ -14,16 +14,15 @@ use Rattle.numbers.proofs.IndexLaws.{sum_none}
 use Rattle.outlet.specs.Outlets.{outlets_most, outlet_at, each_outlet, cleared, loaded}
 use Rattle.outlet.specs.declared.Outlet.{Outlet}
 use Rattle.outlet.specs.declared.Outlets.{Outlets}
-use Rattle.outlet.proofs.OutletLaws.{each_at, each_count}
+use Rattle.outlet.proofs.OutletLaws.{each_at}
 use Rattle.mass.specs.Transport.{rightwards, leftwards, left_share, right_share, moved_outlet, moved_outlets}
 use Rattle.reach.specs.Reach.{Reach, cells}
-use Rattle.reach.specs.Grounds.{first_refusal, ledger_fits}
-use Rattle.reach.specs.Outcome.{Outcome, outcome}
-use Rattle.reach.specs.Balance.{water_held, total_water_in, total_water_out, outlet_water, water_gone, WaterBalanced, mass_held, total_mass_in, total_mass_out, outlet_mass, mass_gone, MassBalanced, everywhere, CellsWithin, BoundariesWithin}
+use Rattle.reach.specs.Outcome.{outcome}
+use Rattle.reach.specs.Balance.{water_held, total_water_in, total_water_out, outlet_water, water_gone, WaterBalanced, mass_held, total_mass_in, total_mass_out, outlet_mass, mass_gone, MassBalanced, everywhere, BoundariesWithin}
 use Rattle.reach.specs.declared.boundary.Boundary.{Boundary}
 use Rattle.reach.specs.declared.ledger.Ledger.{Ledger}
-use Rattle.reach.specs.declared.refusal.Check.{Check}
-use Rattle.reach.specs.declared.refusal.Check.TheVariants.{Pass, Refused}
+use Rattle.reach.specs.Grounds.{Verdict}
+use Rattle.reach.specs.Refusals.{number}
 use Rattle.reach.proofs.GroundsLaws.{stood}
 use Rattle.reach.proofs.Sound.{Sound, outlets_few}
 use Rattle.reach.proofs.OutletLaws.{each_sum}
@@ -32,15 +31,16 @@ use Rattle.transport.proofs.CallsLaws.{by_outcome, by_transport, transport_balan
 use Rattle.water.specs.Water.{net_at, available, draw_of, new_depth}
 use Rattle.water.proofs.WaterLaws.{draw_most}
 use Rattle.cfl.specs.Cfl.{meets_cfl}
-use Rattle.timestep.specs.GreatestStep.{place_speed, greatest}
+use Rattle.timestep.specs.GreatestStep.{place_speed}
 use Rattle.update.specs.Step.{keeps_sums, transported_first, with_water, with_boundary_water, step_ledger, stepped_outlet, step_outlets, step_held, after_step, step}
 use Rattle.update.proofs.StepLaws.{by_step, depth_not_negative, available_not_negative, step_water_balanced, step_mass_balanced, step_within}
-use Rattle.sheet.specs.Header.{count_of, boundaries_of}
+use Rattle.sheet.specs.Header.{count_of}
 use Rattle.sheet.specs.Opening.{sheet_record, opening}
 use Rattle.sheet.proofs.OpeningLaws.{by_opening, check, opened_passes}
-use Rattle.tally.specs.Call.{Free, Call, Entry, step_call, transport_call, boundaries_call, greatest_call, write_call, open_call, wanting_outlet, wanting, lending, with_wants, refusal_of, after_opening, next, final}
-use Rattle.tally.specs.Tally.{AcceptedStep, Tally, add_water, add_mass, add_step, add_draws, add_outlet_mass, add_step_outlets, with_sums, no_draws, start, take_wants, count_step, count_transport, count_setting, given, accepted, if_accepted, count, run}
+use Rattle.tally.specs.Call.{Free, Call, Entry, step_call, transport_call, boundaries_call, greatest_call, write_call, open_call, wanting_outlet, wanting, lending, after_opening, next, final}
+use Rattle.tally.specs.Tally.{Tally, add_water, add_mass, add_step, add_draws, add_outlet_mass, add_step_outlets, with_sums, no_draws, start, take_wants, count_step, count_transport, count_setting, accepted, if_accepted, count, run}
 use Rattle.tally.specs.Holds.{Each, DepthsFromZero, WithinWants, AvailableFromZero, Accounts, Holds, OfDefinitions}
+use Rattle.std.specs.Prelude.{Ok}
 
 -- ---- the tally's sums are the ledger of the definitions: document 01 gives each once as a ledger and once as a tally
 
@@ -382,7 +382,7 @@ module _ (T : Tally) (K : Kept T) where
 -- ---- of a call with its wants, and of an opening
 
 -- an accepted opening's list is no longer than 32
-opened_few : (sheet : List ℕ) (l : Reach) → check sheet l ≡ Pass → l.held.outlets.count ≤ outlets_most
+opened_few : (sheet : List ℕ) (l : Reach) → check sheet l ≡ Ok tt → l.held.outlets.count ≤ outlets_most
 opened_few sheet l e = outlets_few (count_of sheet) l.held.outlets (stood _ e 7)
 
 module _ (T : Tally) (K : Kept T) where
@@ -390,8 +390,8 @@ module _ (T : Tally) (K : Kept T) where
   unfolding if_accepted opening
   opening_counted f sheet list =
       let l = lending (loaded list) T.own in
-      by_opening sheet l (λ (x : Check). Kept (after T K (outcome x l (sheet_record sheet (loaded list))).refusal f (open_call sheet list)))
-      (λ n p. subst Kept (sym (stays T K n f (open_call sheet list) p)) K)
+      by_opening sheet l (λ (x : Verdict). Kept (after T K (outcome x l (sheet_record sheet (loaded list))).refusal f (open_call sheet list)))
+      (λ r p. subst Kept (sym (stays T K (number r) f (open_call sheet list) p)) K)
       (λ e. start_kept sheet (loaded list) (opened_few sheet l e))
 
   opening_moved : (f : Free) (sheet : List ℕ) (list : List Outlet) →
@@ -400,9 +400,9 @@ module _ (T : Tally) (K : Kept T) where
   opening_moved f sheet list =
       let l = lending (loaded list) T.own in
       by_opening sheet l
-      (λ (x : Check).
+      (λ (x : Verdict).
       let o = outcome x l (sheet_record sheet (loaded list)) in (after T K o.refusal f (open_call sheet list)).own ≡ after_opening o T.own)
-      (λ n p. rw (ne_eqb n 0 (λ z. omega arith)) refl)
+      (λ r p. rw (ne_eqb (number r) 0 (λ z. omega arith)) refl)
       (λ e. refl)
 
   pub count_kept : (f : Free) (c : Call) → Kept (count T f c)
@@ -442,7 +442,7 @@ pub opened_own : (sheet : List ℕ) (l : Reach) → (opening sheet l).refusal �
 unfolding opening start sheet_record no_draws cleared
 opened_own sheet l e =
     by_opening sheet l
-    (λ (x : Check). (outcome x l (sheet_record sheet l.held.outlets)).refusal ≡ 0 → (outcome x l (sheet_record sheet l.held.outlets)).reach ≡ (start sheet l.held.outlets).own)
+    (λ (x : Verdict). (outcome x l (sheet_record sheet l.held.outlets)).refusal ≡ 0 → (outcome x l (sheet_record sheet l.held.outlets)).reach ≡ (start sheet l.held.outlets).own)
     (λ n p z. absurd (omega arith))
     (λ p z. refl)
     e

@@ -4,10 +4,8 @@
 use Rattle.std.specs.Prelude.{◌≡◌, true, List, [], ◌∷◌, ℕ, ◌+◌, ◌≤◌, ◌<◌, ℤ, pos}
 use Rattle.std.specs.Int.Signed.{le_z}
 use Rattle.outlet.specs.Outlets.{outlet_at}
-use Rattle.outlet.specs.declared.Outlets.{Outlets}
 use Rattle.reach.specs.Reach.{Reach, cells}
 use Rattle.reach.specs.Balance.{water_held, total_water_in, total_water_out, outlet_water, mass_held, total_mass_in, total_mass_out, outlet_mass, everywhere, CellsWithin, BoundariesWithin}
-use Rattle.reach.specs.declared.boundary.Boundary.{Boundary}
 use Rattle.water.specs.Water.{available, draw_of, new_depth}
 use Rattle.sheet.specs.Opening.{opening}
 use Rattle.tally.specs.Call.{Entry, final}

@@ -4,7 +4,6 @@
 use Rattle.std.specs.Prelude.{cond, List, [], ◌∷◌, ℕ, ◌+◌, ◌-◌, ◌*◌, eqb, ℤ, neg_ℤ}
 use Rattle.numbers.specs.Signed.{positive}
 use Rattle.outlet.specs.Outlets.{outlet_at, each_outlet, loaded}
-use Rattle.outlet.specs.declared.Outlet.{Outlet}
 use Rattle.outlet.specs.declared.Outlets.{Outlets}
 use Rattle.mass.specs.Transport.{left_share, right_share, outlet_share}
 use Rattle.reach.specs.Reach.{Reach, reach_of, cells, carried_at, left_boundary, right_boundary, with_totals}

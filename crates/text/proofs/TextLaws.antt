@@ -9,39 +9,21 @@ use lib.Dec.{T, leb, leb→le, le→leb}
 use lib.IntN.{ℤ, pos, negsuc, nat_abs}
 use lib.Signed.{lt_z}
 use borrow.Author.Tests.{ltb-true}
-use lib.ListN.{length, get_or, set, length-set, length-append}
+use lib.ListN.{length, take, drop, get_or, set, length-set, length-append}
 use lib.Seq.{get_or-set_same, get_or-set_other}
 use Rattle.numbers.proofs.SearchLaws.{by_less, climb_reaches, climb_past}
 use Rattle.numbers.specs.Search.{climb}
-use Rattle.numbers.proofs.IndexLaws.{length_tabulate, get_or_tabulate}
+use Rattle.numbers.proofs.IndexLaws.{length_tabulate}
+use borrow.Rule.Slice.PartMut.{put_mid}
+use Rattle.std.proofs.lemmas.Grind.{common_steps}
+use Rattle.std.proofs.lemmas.List.{get_or_append_left, get_or-append_right}
+use Rattle.numbers.proofs.IndexLaws.{Written, written_all}
+use Rattle.text.specs.Writer.{Adds}
+use Rattle.text.specs.declared.Writer.{Writer}
 use Rattle.text.specs.Text.{digit_count, decimal, signed_decimal, Put}
-
--- an entry of two lists, one after the other
-pub get_or_front : (p q : List ℕ) (k : ℕ) → k < length p → get_or (p ++ q) k 0 ≡ get_or p k 0
-get_or_front [] q k l = absurd (not-suc-le-zero l)
-get_or_front (x ∷ p) q zero l = refl
-get_or_front (x ∷ p) q (suc k) l = get_or_front p q k (omega arith)
-
-pub get_or_back : (p q : List ℕ) (k : ℕ) → length p ≤ k → get_or (p ++ q) k 0 ≡ get_or q (k - length p) 0
-get_or_back [] q k l = let e : k ≡ k - 0 = omega arith in ap (λ (n : ℕ). get_or q n 0) e
-get_or_back (x ∷ p) q zero l = absurd (omega arith)
-get_or_back (x ∷ p) q (suc k) l =
-    let e : k - length p ≡ suc k - suc (length p) = omega arith in
-    get_or_back p q k (omega arith) ∙ ap (λ (n : ℕ). get_or q n 0) e
 
 pub put_none : (a : List ℕ) (at : ℕ) → Put a at [] a
 put_none a at = record { long = refl; put = λ k l. absurd (not-suc-le-zero l); ahead = λ k l. refl; behind = λ k l. refl }
-
-pub put_one : (a : List ℕ) (at v : ℕ) → at < length a → Put a at (v ∷ []) (set a at v)
-put_one a at v l = record {
-  long = length-set a at v;
-  put = λ k j. let e : k ≡ 0 = omega arith in rw (e, add_zero at) (get_or-set_same a at v 0 l);
-  ahead = λ k j. get_or-set_other a at k v 0 (λ x. absurd (omega arith));
-  behind = λ k j. get_or-set_other a at k v 0 (λ x. absurd (omega arith));
-}
-  where
-    add_zero : (n : ℕ) → n + 0 ≡ n
-    add_zero n = omega arith
 
 -- one text after another
 pub put_more : (a : List ℕ) (at : ℕ) (p b q c : List ℕ) → Put a at p b → Put b (at + length p) q c → Put a at (p ++ q) c
@@ -49,13 +31,41 @@ put_more a at p b q c f g = record {
   long = g.long ∙ f.long;
   put = λ k l.
       by_less k (length p) (λ t. get_or c (at + k) 0 ≡ get_or (p ++ q) k 0)
-      (λ j. g.ahead (at + k) (omega arith) ∙ f.put k j ∙ sym (get_or_front p q k j))
+      (λ j. g.ahead (at + k) (omega arith) ∙ f.put k j ∙ sym (get_or_append_left p q 0 k j))
       (λ j.
       let m : k - length p < length q = omega (arith, length-append p q) in
       let e : at + length p + (k - length p) ≡ at + k = omega arith in
-      rw e at (g.put (k - length p) m) ∙ sym (get_or_back p q k j));
+      rw e at (g.put (k - length p) m) ∙ sym (get_or-append_right p q (length p) k 0 refl j));
   ahead = λ k l. g.ahead k (omega arith) ∙ f.ahead k l;
   behind = λ k l. let n = length-append p q in g.behind k (omega arith) ∙ f.behind k (omega arith);
+}
+
+-- the same of a writer
+pub adds_none : (a : Writer) → Adds a [] a
+adds_none a = record { same = refl; next_is = omega arith; put = put_none a.out.now a.at }
+
+pub adds_more : {a b c : Writer} {p q : List ℕ} → Adds a p b → Adds b q c → Adds a (p ++ q) c
+adds_more {a} {b} {c} {p} {q} f g = record {
+  same = g.same ∙ f.same;
+  next_is = omega (arith, f.next_is, g.next_is, length-append p q);
+  put = put_more a.out.now a.at p b.out.now q c.out.now f.put (subst (λ (n : ℕ). Put b.out.now n q c.out.now) f.next_is g.put);
+}
+
+-- what a writer that began at the start of a buffer left there
+pub adds_all : {a b : Writer} {p out out' : List ℕ} → Adds a p b → a.at ≡ 0 → a.out.now ≡ out → b.out.now ≡ out' → Put out 0 p out'
+adds_all {a} {b} {p} f e l m = rw (e, l, m) at f.put
+
+-- the part of the buffer from `at` to `at + n`
+pub part_long : (a : List ℕ) (at n : ℕ) → at + n ≤ length a → length (take (at + n - at) (drop at a)) ≡ n
+part_long a at n h = grind (arith, common_steps)
+
+-- a part of the buffer that has become the text
+pub put_part : (a p : List ℕ) (at n : ℕ) → length p ≡ n → at + n ≤ length a → Put a at p (put_mid at n a p)
+put_part a p at n e h = record {
+  long = grind (arith, common_steps);
+  put = λ k l. grind (arith, common_steps);
+  ahead = λ k l. grind (arith, common_steps);
+  behind = λ k l. grind (arith, common_steps);
 }
 
 -- ---- byte by byte
@@ -107,9 +117,6 @@ pub record Counting (n count unit : ℕ) : Type 0 where
   pub past : (j : ℕ) → suc j < count → 10 ^ suc j ≤ n
 
 module _ (n : ℕ) where
-  pub counting_first : Counting n 1 1
-  counting_first = record { some = omega arith; unit_is = refl; past = λ j l. absurd (omega arith) }
-
   module _ (count unit : ℕ) (w : Counting n count unit) where
     pub unit_some : 1 ≤ unit
     unit_some = rw w.unit_is (power_some (count - 1))
@@ -119,10 +126,10 @@ module _ (n : ℕ) where
         let p : 10 ^ count ≡ 10 ^ (count - 1) * 10 = ap (λ (k : ℕ). 10 ^ k) e ∙ pow-suc 10 (count - 1) in
         omega (arith, p, w.unit_is)
 
-    pub counting_more : 10 * unit ≤ n → Counting n (count + 1) (10 * unit)
+    pub counting_more : unit ≤ n / 10 → Counting n (count + 1) (unit * 10)
     counting_more h = record {
       some = omega arith;
-      unit_is = let e : count ≡ count + 1 - 1 = omega arith in unit_next ∙ ap (λ (k : ℕ). 10 ^ k) e;
+      unit_is = let e : count ≡ count + 1 - 1 = omega arith in let t : unit * 10 ≡ 10 * unit = omega arith in t ∙ unit_next ∙ ap (λ (k : ℕ). 10 ^ k) e;
       past = λ j l.
           by_less (suc j) count (λ t. 10 ^ suc j ≤ n)
           (λ q. w.past j q)
@@ -133,7 +140,7 @@ module _ (n : ℕ) where
     pub counting_few : n < 18_446_744_073_709_551_616 → count ≤ 20
     counting_few h = by_less 20 count (λ t. count ≤ 20) (λ q. let l = w.past 19 (omega arith) in absurd (omega arith)) (λ q. q)
 
-    pub counting_done : n < 10 * unit → count ≡ digit_count n
+    pub counting_done : n / 10 < unit → count ≡ digit_count n
     unfolding digit_count
     counting_done h = omega (arith, low, high, w.some)
       where
@@ -173,12 +180,9 @@ unfolding decimal
 decimal_long n = length_tabulate (digit_count n) (digit_at n (digit_count n))
 
 -- all digits are put
-pub decimal_put : (a : List ℕ) (at n count : ℕ) (b : List ℕ) → count ≡ digit_count n → Putting a at (digit_at n count) count b → Put a at (decimal n) b
+pub decimal_done : (n count i : ℕ) (d b : List ℕ) → count ≡ digit_count n → length d ≡ count → i ≡ count → Written 0 (digit_at n count) d i b → b ≡ decimal n
 unfolding decimal
-decimal_put a at n count b e w =
-    let d = digit_count n in
-    putting_all a at (digit_at n d) d b (decimal n) (rw e at w) (decimal_long n)
-    (λ k l. sym (get_or_tabulate d (digit_at n d) k 0 l))
+decimal_done n count i d b e l f w = rw (l, e) at (written_all 0 _ d i b w (omega arith))
 
 -- ---- a sign in front
 
@@ -191,16 +195,3 @@ pub signed_plain : (z : ℤ) → lt_z z (pos 0) ≡ false → signed_decimal z �
 unfolding signed_decimal
 signed_plain (pos n) e = refl
 signed_plain (negsuc n) e = absurd (subst T e tt)
-
--- what is put and where it ends: '-' and the digits, or the digits alone
-pub put_minus : (a b c : List ℕ) (at next r m : ℕ) (z : ℤ) → lt_z z (pos 0) ≡ true → m ≡ nat_abs z → next ≡ at + 1 → Put a at (45 ∷ []) b
-    → (r ≡ next + length (decimal m)) × (r ≤ next + 20) → Put b next (decimal m) c
-    → ((r ≡ at + length (signed_decimal z)) × (r ≤ at + 21)) × Put a at (signed_decimal z) c
-put_minus a b c at next r m z t e n p q d =
-    rw (signed_minus z t, ← e)
-    ((omega (arith, n, q.0), omega (arith, n, q.1)), put_more a at (45 ∷ []) b (decimal m) c p (rw n at d))
-
-pub put_plain : (a c : List ℕ) (at r m : ℕ) (z : ℤ) → lt_z z (pos 0) ≡ false → m ≡ nat_abs z
-    → (r ≡ at + length (decimal m)) × (r ≤ at + 20) → Put a at (decimal m) c
-    → ((r ≡ at + length (signed_decimal z)) × (r ≤ at + 21)) × Put a at (signed_decimal z) c
-put_plain a c at r m z t e q d = rw (signed_plain z t, ← e) ((q.0, omega (arith, q.1)), d)

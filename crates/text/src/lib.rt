@@ -1,32 +1,15 @@
-// Text put into a buffer of bytes, from `at` on; each function answers where the next text goes.
+// Text put into a lent buffer of bytes, one text behind the other.
 #![tactic(auto)]
 
-ghost use Rattle.std.specs.Prelude.{◌≡◌, [], ◌∷◌, ◌+◌, ◌-◌, ◌/◌, ◌%◌, ◌^◌, ◌≤◌, ◌<◌, length};
-ghost use Rattle.text.specs.Text.{digit_count, decimal, signed_decimal, Put};
+ghost use Rattle.std.specs.Prelude.{◌≡◌, [], ◌∷◌, ◌+◌, ◌-◌, ◌/◌, ◌%◌, ◌^◌, ◌≤◌, length};
+ghost use Rattle.text.specs.Text.{digit_count, decimal, signed_decimal};
+ghost use Rattle.text.specs.Writer.{Adds, Room};
 
-use numbers::signed::magnitude;
-
-pub fn put_byte(out: &mut [u8], at: usize, b: u8) -> usize
-    requires { at < length out.old }
-    ensures value { result ≡ at + 1 }
-    ensures put { Put out.old at (b ∷ []) out.new }
-{
-    out[at] = b;
-    at + 1
-}
-
-pub fn put_word(out: &mut [u8], at: usize, word: &[u8]) -> usize
-    requires { at + length word.now ≤ length out.old }
-    ensures value { result ≡ at + length word.now }
-    ensures put { Put out.old at word.now out.new }
-{
-    let n = word.len();
-    let mut i = 0;
-    while i < n {
-        out[at + i] = word[i];
-        i += 1;
-    }
-    at + n
+// A buffer, and where the next text goes
+#[derive(Drop)]
+pub struct Writer<'a> {
+    pub out: &'a mut [u8],
+    pub at: usize,
 }
 
 // How many digits a number has, and what the highest counts
@@ -39,13 +22,14 @@ struct Digits {
 fn digits_of(n: u64) -> Digits
     ensures { (result.count ≡ digit_count n) × ((result.unit ≡ 10 ^ (result.count - 1)) × (result.count ≤ 20)) }
 {
-    let mut count = 1;
     let mut unit = 1;
-    while unit <= n / 10 {
-        unit = 10 * unit;
-        count += 1;
+    for count in 1..20 {
+        if n / 10 < unit {
+            return Digits { count, unit };
+        }
+        unit *= 10;
     }
-    Digits { count, unit }
+    Digits { count: 20, unit }
 }
 
 // 0 to 9 as a byte
@@ -56,31 +40,54 @@ fn digit(n: u64, unit: u64) -> u8
     (48 + n / unit % 10) as u8
 }
 
-pub fn put_decimal(out: &mut [u8], at: usize, n: u64) -> usize
-    requires { at + 20 ≤ length out.old }
-    ensures value { (result ≡ at + length (decimal n)) × (result ≤ at + 20) }
-    ensures put { Put out.old at (decimal n) out.new }
-{
-    let d = digits_of(n);
-    let count = d.count;
-    let mut unit = d.unit;
-    let mut i = 0;
-    while i < count {
-        out[at + i] = digit(n, unit);
-        unit = unit / 10;
-        i += 1;
+impl<'a> Writer<'a> {
+    // At the start of the buffer
+    pub fn new(out: &'a mut [u8]) -> Writer<'a>
+        ensures same { result.out.ghost_name ≡ out.entry.ghost_name }
+        ensures start { (result.at ≡ 0) × (result.out.now ≡ out.old) }
+    {
+        Writer { out, at: 0 }
     }
-    at + count
-}
 
-pub fn put_signed(out: &mut [u8], at: usize, z: i64) -> usize
-    requires { at + 21 ≤ length out.old }
-    ensures value { (result ≡ at + length (signed_decimal z)) × (result ≤ at + 21) }
-    ensures put { Put out.old at (signed_decimal z) out.new }
-{
-    if z < 0 {
-        let next = put_byte(out, at, b'-');
-        return put_decimal(out, next, magnitude(z));
+    pub fn byte(&mut self, b: u8)
+        requires { Room self.old 1 }
+        ensures { Adds self.old (b ∷ []) self.new }
+    {
+        self.out[self.at] = b;
+        self.at += 1;
     }
-    put_decimal(out, at, magnitude(z))
+
+    pub fn word(&mut self, word: &[u8])
+        requires { Room self.old (length word.now) }
+        ensures { Adds self.old word.now self.new }
+    {
+        let next = self.at + word.len();
+        self.out[self.at..next].copy_from_slice(word);
+        self.at = next;
+    }
+
+    pub fn decimal(&mut self, n: u64)
+        requires { Room self.old 20 }
+        ensures most { self.new.at ≤ self.old.at + 20 }
+        ensures adds { Adds self.old (decimal n) self.new }
+    {
+        let Digits { count, mut unit } = digits_of(n);
+        let next = self.at + count;
+        for byte in &mut self.out[self.at..next] {
+            *byte = digit(n, unit);
+            unit /= 10;
+        }
+        self.at = next;
+    }
+
+    pub fn signed(&mut self, z: i64)
+        requires { Room self.old 21 }
+        ensures most { self.new.at ≤ self.old.at + 21 }
+        ensures adds { Adds self.old (signed_decimal z) self.new }
+    {
+        if z < 0 {
+            self.byte(b'-');
+        }
+        self.decimal(z.unsigned_abs());
+    }
 }

@@ -7,7 +7,7 @@ use borrow.Author.Tests.{eq-eqb, ne_eqb}
 use lib.Dec.{eqb, ltb}
 use lib.IntN.{ℤ}
 use lib.ListN.{length}
-use Rattle.cfl.specs.Cfl.{signal_speed, speed_at, greatest_step, fastest_place}
+use Rattle.cfl.specs.Cfl.{signal_speed, speed_at, fastest_place}
 use Rattle.cfl.specs.Ranges.{FlowColumns, step_for}
 use Rattle.cfl.proofs.CflLaws.{signal_speed_most, speed_of_cell, speed_of_right, greatest_step_is, greatest_step_most, greatest_step_some, all_dry}
 use Rattle.numbers.proofs.SearchLaws.{by_less}
@@ -21,12 +21,13 @@ use Rattle.reach.specs.Grounds.{first_refusal, record_grounds}
 use Rattle.reach.specs.declared.boundary.Boundary.{Boundary}
 use Rattle.reach.specs.declared.boundary.BoundaryPlace.{BoundaryPlace}
 use Rattle.reach.specs.declared.boundary.BoundaryPlace.TheVariants.{Left, Right}
-use Rattle.reach.specs.declared.refusal.Check.{Check}
-use Rattle.reach.specs.declared.refusal.Check.TheVariants.{Pass, Refused}
+use Rattle.reach.specs.Grounds.{Verdict}
 use Rattle.reach.proofs.Sound.{Sound, BoundarySound}
 use Rattle.water.specs.Sides.{cell_side, boundary_side, side_speed}
 use Rattle.water.proofs.WaterLaws.{SideFits, boundary_side_fits}
 use Rattle.timestep.specs.GreatestStep.{boundary_speed, left_speed, right_speed, place_speed, greatest_time, greatest_place, greatest_by, greatest}
+use Rattle.std.specs.Prelude.{Ok, Err}
+use Rattle.reach.specs.declared.refusal.Refusal.{Refusal}
 
 pub speed_fed : (p : BoundaryPlace) (e : Boundary) (c : Side) → e.kind ≡ fed → boundary_speed p e c ≡ side_speed (boundary_side p e c)
 unfolding boundary_speed
@@ -50,9 +51,9 @@ columns_flow s k = record {
       record { depth = (k.cell i j).depth; discharge = (k.cell i j).discharge };
 }
 
-pub stopped : (s : Reach) (n : ℕ) → first_refusal (record_grounds s s.held.boundaries) ≡ Refused n → greatest s ≡ greatest_by (Refused n) s
+pub stopped : (s : Reach) (r : Refusal) → first_refusal (record_grounds s s.held.boundaries) ≡ Err r → greatest s ≡ greatest_by (Err r) s
 unfolding greatest
-stopped s n e = ap (λ (k : Check). greatest_by k s) e
+stopped s r e = ap (λ (k : Verdict). greatest_by k s) e
 
 -- ---- |u|+a at each place
 
@@ -73,7 +74,7 @@ place_right s n =
 -- ---- the answer
 
 -- from what the functions find
-pub found : (s : Reach) (left right place speed time : ℕ) → first_refusal (record_grounds s s.held.boundaries) ≡ Pass
+pub found : (s : Reach) (left right place speed time : ℕ) → first_refusal (record_grounds s s.held.boundaries) ≡ Ok tt
     → left ≡ left_speed s → right ≡ right_speed s → length s.depth ≡ cells s
     → place ≡ fastest_place (speed_at s.depth s.discharge left right) (length s.depth + 1)
     → speed ≡ speed_at s.depth s.discharge left right place
@@ -144,6 +145,6 @@ pub greatest_held : (s : Reach) → (greatest s).held ≡ s.held
 unfolding greatest
 greatest_held s = go (first_refusal (record_grounds s s.held.boundaries))
   where
-    go : (v : Check) → (greatest_by v s).held ≡ s.held
-    go Pass = refl
-    go (Refused _) = refl
+    go : (v : Verdict) → (greatest_by v s).held ≡ s.held
+    go (Ok u) = refl
+    go (Err _) = refl

@@ -1,15 +1,14 @@
 -- Document 01, 'The greatest step'; document 02, point 2.
-use Rattle.std.specs.Prelude.{cond, List, ℕ, ◌+◌, ◌-◌, eqb}
+use Rattle.std.specs.Prelude.{cond, ℕ, ◌+◌, ◌-◌, eqb, Ok, Err}
 use Rattle.cfl.specs.Cfl.{speed_at, greatest_step, fastest_place}
 use Rattle.reach.specs.Limits.{fed}
 use Rattle.reach.specs.Reach.{Reach, cells, left_boundary, right_boundary}
-use Rattle.reach.specs.Grounds.{first_refusal, record_grounds}
+use Rattle.reach.specs.Refusals.{number}
+use Rattle.reach.specs.Grounds.{Verdict, first_refusal, record_grounds}
 use Rattle.reach.specs.declared.boundary.Boundary.{Boundary}
 use Rattle.reach.specs.declared.boundary.BoundaryPlace.{BoundaryPlace}
 use Rattle.reach.specs.declared.boundary.BoundaryPlace.TheVariants.{Left, Right}
 use Rattle.reach.specs.declared.held.Held.{Held}
-use Rattle.reach.specs.declared.refusal.Check.{Check}
-use Rattle.reach.specs.declared.refusal.Check.TheVariants.{Pass, Refused}
 use Rattle.flux.specs.Interface.{Side}
 use Rattle.water.specs.Sides.{cell_side, boundary_side, side_speed}
 use Rattle.timestep.specs.declared.GreatestAnswer.{GreatestAnswer}
@@ -41,9 +40,9 @@ abbrev pub refused_with : ℕ → Held → GreatestAnswer
 refused_with n k = record { refusal = n; held = k; time = 0; place = 0 }
 
 -- the answer, by what grounds 4 to 9 say
-abbrev pub greatest_by : Check → Reach → GreatestAnswer
-greatest_by Pass s = record { refusal = 0; held = s.held; time = greatest_time s; place = greatest_place s }
-greatest_by (Refused n) s = refused_with n s.held
+abbrev pub greatest_by : Verdict → Reach → GreatestAnswer
+greatest_by (Ok u) s = record { refusal = 0; held = s.held; time = greatest_time s; place = greatest_place s }
+greatest_by (Err r) s = refused_with (number r) s.held
 
 unfoldable pub greatest : Reach → GreatestAnswer
 greatest s = greatest_by (first_refusal (record_grounds s s.held.boundaries)) s

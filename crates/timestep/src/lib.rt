@@ -2,19 +2,18 @@
 #![tactic(auto)]
 
 ghost use Rattle.std.specs.Prelude.{◌≡◌, ◌*◌, ◌≤◌, nat_abs};
-ghost use Rattle.numbers.specs.Table.{RootTable};
 ghost use Rattle.flux.specs.Limits.{depth_most, velocity_most};
 ghost use Rattle.water.specs.Ranges.{side_of, SideStateFits};
 ghost use Rattle.reach.specs.Reach.{came};
-ghost use Rattle.reach.specs.Grounds.{number_of};
+ghost use Rattle.reach.specs.Refusals.{number};
 ghost use Rattle.timestep.specs.GreatestStep.{boundary_speed, refused_with, greatest};
 
 use cfl::{fastest_of, longest_step};
-use numbers::root::root_table;
+use numbers::root::SquareRoots;
 use reach::boundary::{Boundary, BoundaryPlace, FED};
 use reach::check_record;
 use reach::held::Held;
-use reach::refusal::Check;
+use reach::refusal::Refusal;
 use water::{SideState, boundary_state, cell_state};
 
 // 0 or the number of the refusal; the boundaries and the ledger as they came; the greatest time step, ms; the place of the greatest
@@ -29,9 +28,8 @@ pub struct GreatestAnswer {
 }
 
 // |u|+a of a boundary at the place p beside the cell c; one that is not fed counts as 0
-pub fn boundary_speed(p: BoundaryPlace, e: Boundary, c: SideState, roots: &[u16; 64]) -> u64
-    requires side_state_fits { SideStateFits c × ((e.depth ≤ depth_most) × (nat_abs e.discharge ≤ velocity_most * e.depth)) }
-    requires root_table { RootTable roots.now }
+pub fn boundary_speed(p: BoundaryPlace, e: Boundary, c: SideState, roots: &SquareRoots) -> u64
+    requires { SideStateFits c × ((e.depth ≤ depth_most) × (nat_abs e.discharge ≤ velocity_most * e.depth)) }
     ensures { result ≡ boundary_speed p e (side_of c) }
 {
     if e.kind != FED {
@@ -41,19 +39,11 @@ pub fn boundary_speed(p: BoundaryPlace, e: Boundary, c: SideState, roots: &[u16;
     side.right + side.left + side.wave
 }
 
-fn refused(k: Check, held: Held) -> GreatestAnswer
-    ensures { result ≡ refused_with (number_of k) held }
+fn refused(r: Refusal, held: Held) -> GreatestAnswer
+    ensures { result ≡ refused_with (number r) held }
 {
-    let Check::Refused(n) = k else {
-        return GreatestAnswer {
-            refusal: 0,
-            held,
-            time: 0,
-            place: 0,
-        };
-    };
     GreatestAnswer {
-        refusal: n,
+        refusal: r.into(),
         held,
         time: 0,
         place: 0,
@@ -73,14 +63,13 @@ pub fn greatest_step(
     ensures { result ≡ greatest (came bed.now depth.now discharge.now mass.now base.now carried.now x held) }
 {
     let boundaries = held.boundaries;
-    let checked = check_record(
+    if let Err(r) = check_record(
         bed, depth, discharge, mass, base, carried, x, held, boundaries,
-    );
-    let Check::Pass = checked else {
-        return refused(checked, held);
-    };
+    ) {
+        return refused(r, held);
+    }
     let n = bed.len();
-    let roots = root_table();
+    let roots = SquareRoots::new();
     let first = cell_state(bed[0], depth[0], discharge[0], &roots);
     let last = cell_state(bed[n - 1], depth[n - 1], discharge[n - 1], &roots);
     let left = boundary_speed(BoundaryPlace::Left, boundaries[0], first, &roots);

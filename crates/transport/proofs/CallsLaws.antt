@@ -34,15 +34,18 @@ use Rattle.reach.specs.Parts.{outflow, drawn_from}
 use Rattle.reach.specs.Ranges.{undrawn}
 use Rattle.reach.specs.Balance.{mass_held, total_mass_in, total_mass_out, outlet_mass, mass_gone, MassBalanced, everywhere, CellsWithin, BoundaryWithin, BoundariesWithin}
 use Rattle.reach.specs.declared.boundary.Boundary.{Boundary}
-use Rattle.reach.specs.declared.refusal.Check.{Check}
-use Rattle.reach.specs.declared.refusal.Check.TheVariants.{Pass, Refused}
-use Rattle.reach.proofs.GroundsLaws.{further, no_further, last_one, numbered, refused_number}
+use Rattle.reach.specs.Grounds.{Verdict}
+use Rattle.reach.proofs.GroundsLaws.{further, no_further, last_one, number_above}
 use Rattle.reach.proofs.OutletLaws.{each_fits, each_from, each_sum}
 use Rattle.reach.proofs.PartsLaws.{outflow_is}
 use Rattle.reach.proofs.Sound.{Sound, CarriedSound, none_carried_lem, outlets_few, outlet_sound, sound, given_fits, stands, boundary_sound}
 use Rattle.transport.specs.Calls.{entering_left, entering_right, mass_columns_of, with_mass, ledger_with, transport_ledger, transport_outlets, transport_held, after_transport, transport_grounds, transport, holding, set_boundaries, CameTo}
 use Rattle.transport.specs.Ranges.{mass_columns_with, BoundaryMassOf, Small}
 use Rattle.transport.specs.declared.TransportAnswer.{TransportAnswer}
+use Rattle.std.specs.Prelude.{Ok, Err}
+use Rattle.reach.specs.declared.refusal.Refusal.{Refusal}
+use Rattle.reach.specs.declared.refusal.Refusal.TheVariants as refusal
+use Rattle.reach.specs.Refusals.{number}
 
 -- ---- what a sound record owes the functions
 
@@ -168,26 +171,22 @@ module _ (s : Reach) (k : Sound s) where
 
 -- ---- what each outcome is
 
-all_numbered : (s : Reach) (es : List Boundary) → numbered (record_grounds s es) ≡ true
-unfolding numbered
-all_numbered s es = refl
-
 module _ (s : Reach) (es : List Boundary) where
-  pub stopped : (n : ℕ) → first_refusal (record_grounds s es) ≡ Refused n → set_boundaries s es ≡ record { refusal = n; reach = s }
+  pub stopped : (r : Refusal) → first_refusal (record_grounds s es) ≡ Err r → set_boundaries s es ≡ record { refusal = number r; reach = s }
   unfolding set_boundaries
-  stopped n e = ap (λ (k : Check). outcome k s (holding es (after_transport s))) (no_further (record_grounds s es) _ n e)
+  stopped r e = ap (λ (k : Verdict). outcome k s (holding es (after_transport s))) (no_further (record_grounds s es) _ r e)
 
-  module _ (e : first_refusal (record_grounds s es) ≡ Pass) where
-    at_last : (t : Bool) → all_totals_fit (transport_held s) ≡ t → first_refusal (transport_grounds s es) ≡ pass_or 13 t
-    at_last t f = further (record_grounds s es) _ e ∙ last_one 13 _ ∙ ap (pass_or 13) f
+  module _ (e : first_refusal (record_grounds s es) ≡ Ok tt) where
+    at_last : (t : Bool) → all_totals_fit (transport_held s) ≡ t → first_refusal (transport_grounds s es) ≡ pass_or refusal.Total t
+    at_last t f = further (record_grounds s es) _ e ∙ last_one refusal.Total _ ∙ ap (pass_or refusal.Total) f
 
     pub full : all_totals_fit (transport_held s) ≡ false → set_boundaries s es ≡ record { refusal = 13; reach = s }
     unfolding set_boundaries
-    full f = ap (λ (k : Check). outcome k s (holding es (after_transport s))) (at_last false f)
+    full f = ap (λ (k : Verdict). outcome k s (holding es (after_transport s))) (at_last false f)
 
     pub accepted : all_totals_fit (transport_held s) ≡ true → set_boundaries s es ≡ record { refusal = 0; reach = holding es (after_transport s) }
     unfolding set_boundaries
-    accepted f = ap (λ (k : Check). outcome k s (holding es (after_transport s))) (at_last true f)
+    accepted f = ap (λ (k : Verdict). outcome k s (holding es (after_transport s))) (at_last true f)
 
   -- every statement about the outcome, by the three ways it can go
   pub by_outcome : (P : Outcome → Type 0)
@@ -196,10 +195,10 @@ module _ (s : Reach) (es : List Boundary) where
       → P (set_boundaries s es)
   by_outcome P stays moves = go (first_refusal (record_grounds s es)) refl (all_totals_fit (transport_held s)) refl
     where
-      go : (k : Check) → first_refusal (record_grounds s es) ≡ k → (t : Bool) → all_totals_fit (transport_held s) ≡ t → P (set_boundaries s es)
-      go Pass p true q = subst P (sym (accepted p q)) (moves (sound s es p) (given_fits s es p) q)
-      go Pass p false q = subst P (sym (full p q)) (stays 13 (omega arith))
-      go (Refused n) p t q = subst P (sym (stopped n p)) (stays n (refused_number (record_grounds s es) n (all_numbered s es) p))
+      go : (k : Verdict) → first_refusal (record_grounds s es) ≡ k → (t : Bool) → all_totals_fit (transport_held s) ≡ t → P (set_boundaries s es)
+      go (Ok u) p true q = subst P (sym (accepted p q)) (moves (sound s es p) (given_fits s es p) q)
+      go (Ok u) p false q = subst P (sym (full p q)) (stays 13 (omega arith))
+      go (Err r) p t q = subst P (sym (stopped r p)) (stays (number r) (number_above r))
 
 -- ---- mass
 
@@ -443,9 +442,9 @@ by_transport s P stays moves =
 
 -- an accepted call leaves a record that stands grounds 4 to 9 again, whatever pair it is given next
 pub stands_again : (s : Reach) (es gs : List Boundary) → (set_boundaries s es).refusal ≡ 0 → boundaries_fit gs ≡ true
-    → first_refusal (record_grounds (set_boundaries s es).reach gs) ≡ Pass
+    → first_refusal (record_grounds (set_boundaries s es).reach gs) ≡ Ok tt
 stands_again s es gs e g =
-    by_outcome s es (λ o. o.refusal ≡ 0 → first_refusal (record_grounds o.reach gs) ≡ Pass)
+    by_outcome s es (λ o. o.refusal ≡ 0 → first_refusal (record_grounds o.reach gs) ≡ Ok tt)
     (λ n p z. absurd (omega arith))
     (λ k f l z. stands (holding es (after_transport s)) gs (transport_sound s k es f l) g)
     e

@@ -7,9 +7,9 @@ use Rattle.reach.specs.Grounds.{first_refusal}
 use Rattle.reach.specs.Outcome.{outcome}
 use Rattle.reach.specs.Reach.{Reach}
 use Rattle.reach.specs.declared.boundary.Boundary.{Boundary}
-use Rattle.reach.specs.declared.refusal.Check.{Check}
-use Rattle.reach.specs.declared.refusal.Check.TheVariants.{Pass, Refused}
+use Rattle.reach.specs.Grounds.{Verdict}
 use Rattle.transport.specs.Calls.{mass_columns_of, transport_outlets, transport_held, after_transport, transport_grounds, transport, holding, set_boundaries}
+use Rattle.std.specs.Prelude.{Ok, Err}
 
 module _ (n : ℕ) (s : Reach) (a : AsLoaded n s.held.outlets) where
   pub transported_as_loaded : AsLoaded n (after_transport s).held.outlets
@@ -20,9 +20,9 @@ module _ (n : ℕ) (s : Reach) (a : AsLoaded n s.held.outlets) where
   unfolding transport
   transport_as_loaded = go (first_refusal (transport_grounds s s.held.boundaries))
     where
-      go : (v : Check) → AsLoaded n (outcome v s (after_transport s)).reach.held.outlets
-      go Pass = transported_as_loaded
-      go (Refused _) = a
+      go : (v : Verdict) → AsLoaded n (outcome v s (after_transport s)).reach.held.outlets
+      go (Ok u) = transported_as_loaded
+      go (Err _) = a
 
   given_as_loaded : (es : List Boundary) → AsLoaded n (holding es (after_transport s)).held.outlets
   unfolding holding
@@ -32,6 +32,6 @@ module _ (n : ℕ) (s : Reach) (a : AsLoaded n s.held.outlets) where
   unfolding set_boundaries
   setting_as_loaded es = go (first_refusal (transport_grounds s es))
     where
-      go : (v : Check) → AsLoaded n (outcome v s (holding es (after_transport s))).reach.held.outlets
-      go Pass = given_as_loaded es
-      go (Refused _) = a
+      go : (v : Verdict) → AsLoaded n (outcome v s (holding es (after_transport s))).reach.held.outlets
+      go (Ok u) = given_as_loaded es
+      go (Err _) = a

@@ -13,6 +13,7 @@ use Rattle.reach.specs.declared.held.Held.{Held}
 use Rattle.reach.specs.declared.ledger.Totals.{Totals}
 use Rattle.reach.specs.declared.ledger.Ledger.{Ledger}
 use Rattle.transport.specs.declared.TransportAnswer.{TransportAnswer}
+use Rattle.reach.specs.declared.refusal.Refusal.TheVariants as refusal
 
 -- water entering at a boundary brings its amount times that boundary's concentration
 unfoldable pub entering_left : Reach → ℕ
@@ -60,7 +61,7 @@ after_transport s = record {
 
 -- grounds 4 to 9, of a call that is given the pair es, then 13: a total would pass 10^18 by this call
 abbrev pub transport_grounds : Reach → List Boundary → List Ground
-transport_grounds s es = record_grounds s es ++ (ground 13 (all_totals_fit (transport_held s)) ∷ [])
+transport_grounds s es = record_grounds s es ++ (ground refusal.Total (all_totals_fit (transport_held s)) ∷ [])
 
 -- transport may be called by itself
 unfoldable pub transport : Reach → Outcome

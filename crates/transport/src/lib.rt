@@ -8,20 +8,19 @@ ghost use Rattle.reach.specs.Limits.{total_most};
 ghost use Rattle.outlet.specs.Outlets.{outlets_most};
 ghost use Rattle.reach.specs.Ranges.{undrawn};
 ghost use Rattle.reach.specs.Reach.{reach_of, came};
-ghost use Rattle.reach.specs.Grounds.{ledger_fits, all_totals_fit, first_refusal, record_grounds, number_of, pass_or};
-ghost use Rattle.reach.specs.declared.refusal.Check.TheVariants.{Pass};
+ghost use Rattle.reach.specs.Grounds.{ledger_fits, all_totals_fit, first_refusal, record_grounds, pass_or};
+ghost use Rattle.reach.specs.Refusals.{number};
 ghost use Rattle.transport.specs.Calls.{with_mass, ledger_with, set_boundaries, transport as transportOf, CameTo};
 ghost use Rattle.transport.specs.Ranges.{mass_columns_with, BoundaryMassOf, Small, answer};
 
 use mass::outlets::{move_outlets, take_gains};
 use mass::{move_mass, shares_at};
-use numbers::columns::{clear_column, copy_column};
 use numbers::signed::{left_part, right_part};
 use reach::boundary::Boundary;
 use reach::check_record;
 use reach::held::{Held, all_totals_fit};
 use reach::ledger::{Ledger, Totals};
-use reach::refusal::Check;
+use reach::refusal::Refusal;
 
 // What a transport or a setting of boundaries hands back: 0 or the number of its refusal, the boundaries held from now on, and the ledger.
 // A refused call hands the boundaries and the ledger back as they came.
@@ -32,17 +31,17 @@ pub struct TransportAnswer {
     pub held: Held,
 }
 
-fn refused(k: Check, held: Held) -> TransportAnswer
-    ensures { result ≡ answer (number_of k) held }
+fn refused(r: Refusal, held: Held) -> TransportAnswer
+    ensures { result ≡ answer (number r) held }
 {
-    let Check::Refused(n) = k else {
-        return TransportAnswer { refusal: 0, held };
-    };
-    TransportAnswer { refusal: n, held }
+    TransportAnswer {
+        refusal: r.into(),
+        held,
+    }
 }
 
 // The mass that crosses both boundaries
-#[derive(Clone, Copy)]
+#[derive(Clone, Copy, Default)]
 pub struct BoundaryMass {
     pub left_in: u64,
     pub left_out: u64,
@@ -79,10 +78,9 @@ pub fn with_mass(t: Totals, gained: u64, lost: u64) -> Totals
     ensures { result ≡ with_mass t gained lost }
 {
     Totals {
-        water_in: t.water_in,
-        water_out: t.water_out,
         mass_in: t.mass_in + gained,
         mass_out: t.mass_out + lost,
+        ..t
     }
 }
 
@@ -91,25 +89,18 @@ fn entered(k: Ledger, x: BoundaryMass) -> Ledger
     requires { (ledger_fits k ≡ true) × Small x.left_in x.left_out x.right_in x.right_out }
     ensures { result ≡ ledger_with k x.left_in x.left_out x.right_in x.right_out }
 {
-    let left = k.left;
-    let right = k.right;
-    let next_left = with_mass(left, x.left_in, x.left_out);
-    let next_right = with_mass(right, x.right_in, x.right_out);
     Ledger {
-        left: next_left,
-        right: next_right,
+        left: with_mass(k.left, x.left_in, x.left_out),
+        right: with_mass(k.right, x.right_in, x.right_out),
     }
 }
 
 // Ground 13, of the totals that a call would leave
-pub fn check_room(held: Held) -> Check
+pub fn check_room(held: Held) -> Result<(), Refusal>
     requires { held.outlets.count ≤ outlets_most }
-    ensures { result ≡ pass_or 13 (all_totals_fit held) }
+    ensures { result ≡ pass_or Refusal.Total (all_totals_fit held) }
 {
-    if !all_totals_fit(held) {
-        return Check::Refused(13);
-    }
-    Check::Pass
+    Refusal::Total.unless(all_totals_fit(held))
 }
 
 // Shares move but those of the outlets, the base depth becomes the depth, the carried water becomes 0. Nothing refuses any more.
@@ -128,8 +119,8 @@ pub fn commit(
     ensures carried_after { carried.new ≡ replicate (length carried.old) (pos 0) }
 {
     move_mass(mass, base, carried, left_in, right_in);
-    copy_column(base, depth);
-    clear_column(carried);
+    base.copy_from_slice(depth);
+    carried.fill(0);
 }
 
 // Ground 13 and the transport itself, on a record that stood the grounds before
@@ -144,7 +135,7 @@ fn transport_under(
     held: Held,
     given: [Boundary; 2],
 ) -> TransportAnswer
-    requires { first_refusal (record_grounds (reach_of bed.now depth.now discharge.now mass.old base.old carried.old x held) given) ≡ Pass }
+    requires { first_refusal (record_grounds (reach_of bed.now depth.now discharge.now mass.old base.old carried.old x held) given) ≡ Ok tt }
     ensures { CameTo (set_boundaries (came bed.now depth.now discharge.now mass.old base.old carried.old x held) given) result mass.new base.new carried.new }
 {
     let old = held.boundaries;
@@ -158,9 +149,9 @@ fn transport_under(
         ledger: next,
         outlets: moved,
     };
-    let Check::Pass = check_room(after) else {
-        return TransportAnswer { refusal: 13, held };
-    };
+    if let Err(r) = check_room(after) {
+        return refused(r, held);
+    }
     commit(
         depth,
         mass,
@@ -196,10 +187,9 @@ pub fn set_boundaries(
 ) -> TransportAnswer
     ensures { CameTo (set_boundaries (came bed.now depth.now discharge.now mass.old base.old carried.old x held) given) result mass.new base.new carried.new }
 {
-    let checked = check_record(bed, depth, discharge, mass, base, carried, x, held, given);
-    let Check::Pass = checked else {
-        return refused(checked, held);
-    };
+    if let Err(r) = check_record(bed, depth, discharge, mass, base, carried, x, held, given) {
+        return refused(r, held);
+    }
     transport_under(bed, depth, discharge, mass, base, carried, x, held, given)
 }
 

@@ -5,11 +5,11 @@ use Rattle.outlet.proofs.LentLaws.{AsLoaded, each_as_loaded}
 use Rattle.reach.specs.Grounds.{first_refusal}
 use Rattle.reach.specs.Outcome.{outcome}
 use Rattle.reach.specs.Reach.{Reach}
-use Rattle.reach.specs.declared.refusal.Check.{Check}
-use Rattle.reach.specs.declared.refusal.Check.TheVariants.{Pass, Refused}
+use Rattle.reach.specs.Grounds.{Verdict}
 use Rattle.transport.specs.Calls.{after_transport}
 use Rattle.transport.proofs.LoadedLaws.{transported_as_loaded}
 use Rattle.update.specs.Step.{keeps_sums, transported_first, stepped_outlet, step_outlets, step_held, after_step, step_grounds, step}
+use Rattle.std.specs.Prelude.{Ok, Err}
 
 module _ (n : ℕ) (s : Reach) (t : ℕ) (a : AsLoaded n s.held.outlets) where
   first : AsLoaded n (transported_first s t).held.outlets
@@ -28,6 +28,6 @@ module _ (n : ℕ) (s : Reach) (t : ℕ) (a : AsLoaded n s.held.outlets) where
   unfolding step
   step_as_loaded F = go (first_refusal (step_grounds s t F))
     where
-      go : (v : Check) → AsLoaded n (outcome v s (after_step s t F)).reach.held.outlets
-      go Pass = stepped F
-      go (Refused _) = a
+      go : (v : Verdict) → AsLoaded n (outcome v s (after_step s t F)).reach.held.outlets
+      go (Ok u) = stepped F
+      go (Err _) = a

@@ -33,12 +33,12 @@ use Rattle.reach.specs.Balance.{water_held, total_water_in, total_water_out, out
 use Rattle.reach.specs.declared.held.Held.{Held}
 use Rattle.reach.specs.declared.ledger.Totals.{Totals}
 use Rattle.reach.specs.declared.boundary.Boundary.{Boundary}
-use Rattle.reach.specs.declared.refusal.Check.{Check}
-use Rattle.reach.specs.declared.refusal.Check.TheVariants.{Pass, Refused}
+use Rattle.reach.specs.Grounds.{Verdict}
+use Rattle.reach.specs.Refusals.{number}
 use Rattle.reach.specs.Parts.{outflow, drawn_from}
 use Rattle.reach.proofs.PartsLaws.{outflow_is}
 use Rattle.reach.proofs.OutletLaws.{each_fits, each_from, each_sum}
-use Rattle.reach.proofs.GroundsLaws.{stood, numbered, refused_number, passed_first}
+use Rattle.reach.proofs.GroundsLaws.{stood, number_above, passed_first}
 use Rattle.reach.proofs.Sound.{Sound, sound, stands, CellSound, CarriedSound, TotalsSound, totals_sound, ledger_left, ledger_right, ledger_fits_lem, outlets_few, outlet_sound}
 use Rattle.transport.specs.Calls.{mass_columns_of, after_transport, transport_ledger, transport_outlets, transport_held, ledger_with, with_mass}
 use Rattle.mass.specs.Transport.{moved_outlet, moved_outlets}
@@ -47,6 +47,7 @@ use Rattle.water.specs.Water.{net_at, available, draws, draw_of, new_depth, new_
 use Rattle.water.proofs.WaterLaws.{rightward, leftward, net_is, available_is, drawn_covered, draws_sum, new_depth_is, wall_left, wall_right, nearest_within}
 use Rattle.timestep.specs.GreatestStep.{place_speed}
 use Rattle.update.specs.Step.{summed, summed_drawn, keeps_sums, transported_first, with_water, with_boundary_water, step_ledger, stepped_outlet, step_outlets, step_held, after_step, depths_fit, step_grounds, step}
+use Rattle.std.specs.Prelude.{Ok, Err}
 
 -- ---- carried water that N is added to, over plain values
 
@@ -564,10 +565,6 @@ step_within s k t F lo hi w e = of_transported s t F (everywhere lo) (everywhere
 
 -- ---- the call: what each outcome is, and what an accepted one leaves
 
-all_numbered : (s : Reach) (t F : ℕ) → numbered (step_grounds s t F) ≡ true
-unfolding numbered
-all_numbered s t F = refl
-
 -- every statement about the outcome, by the two ways it can go
 pub by_step : (s : Reach) (t F : ℕ) (P : Outcome → Type 0)
     → ((n : ℕ) → 0 < n → P (record { refusal = n; reach = s }))
@@ -577,17 +574,17 @@ pub by_step : (s : Reach) (t F : ℕ) (P : Outcome → Type 0)
 unfolding step
 by_step s t F P stays moves = go (first_refusal (step_grounds s t F)) refl
   where
-    go : (k : Check) → first_refusal (step_grounds s t F) ≡ k → P (outcome k s (after_step s t F))
-    go (Refused n) e = stays n (refused_number (step_grounds s t F) n (all_numbered s t F) e)
-    go Pass e =
+    go : (k : Verdict) → first_refusal (step_grounds s t F) ≡ k → P (outcome k s (after_step s t F))
+    go (Err r) e = stays (number r) (number_above r)
+    go (Ok u) e =
         let g = stood (step_grounds s t F) e in
         moves (sound s s.held.boundaries (passed_first (record_grounds s s.held.boundaries) _ e)) (g 10) (g 11) (g 12)
 
 -- an accepted step leaves a record that stands grounds 4 to 9 again, whatever pair it is given next
 pub step_stands_again : (s : Reach) (t F : ℕ) (gs : List Boundary) → (step s t F).refusal ≡ 0 → boundaries_fit gs ≡ true
-    → first_refusal (record_grounds (step s t F).reach gs) ≡ Pass
+    → first_refusal (record_grounds (step s t F).reach gs) ≡ Ok tt
 step_stands_again s t F gs e g =
-    by_step s t F (λ o. o.refusal ≡ 0 → first_refusal (record_grounds o.reach gs) ≡ Pass)
+    by_step s t F (λ o. o.refusal ≡ 0 → first_refusal (record_grounds o.reach gs) ≡ Ok tt)
     (λ n p z. absurd (omega arith))
     (λ k c d l z. stands (after_step s t F) gs (stepped_sound s k t c d l F) g)
     e

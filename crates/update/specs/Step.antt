@@ -19,6 +19,7 @@ use Rattle.reach.specs.declared.ledger.Ledger.{Ledger}
 use Rattle.transport.specs.Calls.{after_transport}
 use Rattle.water.specs.Water.{net_at, draw_of, new_depth, new_discharge}
 use Rattle.timestep.specs.GreatestStep.{place_speed}
+use Rattle.reach.specs.declared.refusal.Refusal.TheVariants as refusal
 
 -- ---- the transport test, the paper's 'settling test'
 
@@ -100,11 +101,11 @@ depths_fit s t = all_below (cells s) (λ i. le_z (new_depth s t i) (pos depth_mo
 abbrev pub step_grounds : Reach → (t F : ℕ) → List Ground
 step_grounds s t F =
     record_grounds s s.held.boundaries
-    ++ (ground 10 (time_fits t)
-    ∷ ground 17 (strickler_fits F)
-    ∷ ground 11 (meets_cfl (place_speed s) (cells s + 1) s.cell_length t)
-    ∷ ground 12 (depths_fit s t)
-    ∷ ground 13 (all_totals_fit (step_held s t))
+    ++ (ground refusal.TimeStep (time_fits t)
+    ∷ ground refusal.Strickler (strickler_fits F)
+    ∷ ground refusal.Cfl (meets_cfl (place_speed s) (cells s + 1) s.cell_length t)
+    ∷ ground refusal.Depth (depths_fit s t)
+    ∷ ground refusal.Total (all_totals_fit (step_held s t))
     ∷ [])
 
 unfoldable pub step : Reach → (t F : ℕ) → Outcome

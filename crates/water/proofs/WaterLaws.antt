@@ -8,10 +8,11 @@ use native.Mathlib.Omega.{arith}
 use native.Mathlib.Nat.{le_trans}
 use native.Mathlib.Numerals.{add-one}
 use lib.Dec.{eqb, ltb}
-use borrow.Author.Tests.{le-leb, lt-ltb, le-ltb, eq-eqb, ne_eqb, eqb-true}
+use borrow.Author.Tests.{le-leb, leb-true, leb-false, lt-ltb, le-ltb, eq-eqb, ne_eqb, eqb-true}
 use lib.IntN.{ℤ, pos, ◌+ℤ◌, ◌-ℤ◌, neg_ℤ, sub_ℕ, nat_abs}
 use lib.ListN.{length, get_or}
-use lib.Signed.{le_z, le_z_yes}
+use lib.Signed.{le_z, lt_z, le_z_yes}
+use Rattle.std.specs.Int.{int_min, int_max}
 use Rattle.numbers.specs.Deal.{dealt}
 use Rattle.numbers.specs.Index.{all_below, sum, sum_below}
 use Rattle.numbers.proofs.DealLaws.{dealt_sum, dealt_most, dealt_all, length_dealt}
@@ -20,7 +21,7 @@ use Rattle.outlet.specs.Outlets.{outlet_at, from_cell}
 use Rattle.outlet.specs.declared.Outlets.{Outlets}
 use Rattle.numbers.specs.Signed.{positive}
 use Rattle.numbers.proofs.SearchLaws.{by_test, by_less}
-use Rattle.numbers.proofs.SignedLaws.{R, L, right_sub, left_sub, pos_cross, neg_cross, add_cross, minus_cross, from_cross, le_cross, le_z_no, one_part, two_parts, pos_sub, sub_add, sub_minus, sub_eq, sub_neg, abs_parts, abs_neg, abs_sub}
+use Rattle.numbers.proofs.SignedLaws.{R, L, right_sub, left_sub, pos_cross, neg_cross, add_cross, minus_cross, from_cross, le_cross, le_z_no, le_z_is, lt_z_true, lt_z_false, one_part, two_parts, pos_sub, sub_add, sub_minus, sub_eq, sub_neg, abs_parts, abs_neg, abs_sub}
 use Rattle.flux.specs.Wave.{wave_speed}
 use Rattle.flux.specs.Velocity.{velocity}
 use Rattle.flux.specs.Crossing.{water_flux, momentum_flux, still_thrust}
@@ -318,6 +319,30 @@ pushed_is s t i l =
     (still_thrust_mono t X (own_right s i) (depth_at s i) (own_right_le s i))
 
 -- ---- the nearest value lies in the range
+
+-- the least of z and the upper end, and of that and the lower end the greatest
+module _ (most : ℕ) (z : ℤ) where
+  abbrev high : ℤ
+  high = pos most
+
+  abbrev low : ℤ
+  low = neg_ℤ (pos most)
+
+  clamped : (a b c d e : Bool) → lt_z high z ≡ a → lt_z high low ≡ b → lt_z z low ≡ c → le_z high z ≡ d → le_z z low ≡ e
+      → cond (lt_z (cond (lt_z high z) high z) low) low (cond (lt_z high z) high z) ≡ cond (le_z high z) high (cond (le_z z low) low z)
+  clamped true true c d e p q r s t = absurd (omega (arith, lt_z_true high low q, pos_cross most, (neg_cross high).1))
+  clamped true false c true e p q r s t = rw (p, q, s) refl
+  clamped true false c false e p q r s t = absurd (omega (arith, lt_z_true high z p, leb-false (R high + L z) (R z + L high) (sym (le_z_is high z) ∙ s)))
+  clamped false b true true e p q r s t = absurd (omega (arith, lt_z_true z low r, leb-true (R high + L z) (R z + L high) (sym (le_z_is high z) ∙ s), pos_cross most, (neg_cross high).1))
+  clamped false b true false true p q r s t = rw (p, r, s, t) refl
+  clamped false b true false false p q r s t = absurd (omega (arith, lt_z_true z low r, leb-false (R z + L low) (R low + L z) (sym (le_z_is z low) ∙ t)))
+  clamped false b false true e p q r s t = rw (p, r, s) (from_cross z high (omega (arith, lt_z_false high z p, leb-true (R high + L z) (R z + L high) (sym (le_z_is high z) ∙ s))))
+  clamped false b false false true p q r s t = rw (p, r, s, t) (from_cross z low (omega (arith, lt_z_false z low r, leb-true (R z + L low) (R low + L z) (sym (le_z_is z low) ∙ t))))
+  clamped false b false false false p q r s t = rw (p, r, s, t) refl
+
+  pub nearest_clamped : int_max low (int_min z high) ≡ nearest most z
+  unfolding nearest
+  nearest_clamped = clamped (lt_z high z) (lt_z high low) (lt_z z low) (le_z high z) (le_z z low) refl refl refl refl refl
 
 pub nearest_within : (most : ℕ) (z : ℤ) → nat_abs (nearest most z) ≤ most
 unfolding nearest

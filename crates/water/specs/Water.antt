@@ -1,6 +1,6 @@
 -- Document 01, 'A water step', and document 02, points 1 and 4: what a step of t makes of the water of a record, as formulas; whether the step is refused and whether it
 -- transports first is another matter.
-use Rattle.std.specs.Prelude.{cond, List, ℕ, suc, ◌+◌, ◌*◌, ℤ, pos, ◌+ℤ◌, ◌-ℤ◌, neg_ℤ, nat_abs, get_or}
+use Rattle.std.specs.Prelude.{cond, List, ℕ, suc, ◌*◌, ℤ, pos, ◌+ℤ◌, ◌-ℤ◌, neg_ℤ, nat_abs, get_or}
 use Rattle.std.specs.Int.Signed.{le_z}
 use Rattle.numbers.specs.Deal.{dealt}
 use Rattle.numbers.specs.Index.{sum}

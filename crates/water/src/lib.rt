@@ -2,7 +2,6 @@
 #![tactic(auto)]
 
 ghost use Rattle.std.specs.Prelude.{◌≡◌, ◌*◌, ◌-◌, ◌≤◌, ◌<◌, pos, ◌+ℤ◌, ◌-ℤ◌, nat_abs};
-ghost use Rattle.numbers.specs.Table.{RootTable};
 ghost use Rattle.flux.specs.Limits.{bed_most, depth_most, velocity_most, time_step_most};
 ghost use Rattle.flux.specs.Crossing.{still_thrust};
 ghost use Rattle.flux.specs.Ranges.{Mesh, SpanOf, Flow};
@@ -19,6 +18,7 @@ use flux::velocity::velocity_parts;
 use flux::wave::wave_speed;
 use friction::slow;
 use numbers::quotient::Divisor;
+use numbers::root::SquareRoots;
 use reach::boundary::{Boundary, BoundaryPlace, OPEN, WALL};
 
 // A cell, or a boundary beside one: bed level, depth, wave speed, and velocity right − left
@@ -31,9 +31,8 @@ pub struct SideState {
     pub left: u64,
 }
 
-pub fn cell_state(z: i64, h: u64, q: i64, roots: &[u16; 64]) -> SideState
-    requires z_bound { (nat_abs z ≤ bed_most) × ((h ≤ depth_most) × (nat_abs q ≤ velocity_most * h)) }
-    requires root_table { RootTable roots.now }
+pub fn cell_state(z: i64, h: u64, q: i64, roots: &SquareRoots) -> SideState
+    requires { (nat_abs z ≤ bed_most) × ((h ≤ depth_most) × (nat_abs q ≤ velocity_most * h)) }
     ensures { SideStateFits result × (side_of result ≡ record { bed = z; depth = h; velocity = velocity h q }) }
 {
     let u = velocity_parts(h, q);
@@ -47,9 +46,8 @@ pub fn cell_state(z: i64, h: u64, q: i64, roots: &[u16; 64]) -> SideState
 }
 
 // What a boundary at the place p shows beside the cell c
-pub fn boundary_state(p: BoundaryPlace, e: Boundary, c: SideState, roots: &[u16; 64]) -> SideState
-    requires side_state_fits { SideStateFits c × ((e.depth ≤ depth_most) × (nat_abs e.discharge ≤ velocity_most * e.depth)) }
-    requires root_table { RootTable roots.now }
+pub fn boundary_state(p: BoundaryPlace, e: Boundary, c: SideState, roots: &SquareRoots) -> SideState
+    requires { SideStateFits c × ((e.depth ≤ depth_most) × (nat_abs e.discharge ≤ velocity_most * e.depth)) }
     ensures { SideStateFits result × (side_of result ≡ boundary_side p e (side_of c)) }
 {
     if e.kind == WALL {
@@ -82,7 +80,7 @@ fn thrust_lost(t: u64, x: u64, span: Divisor, h: u64, a: u64, reduced: u64, redu
 // What crosses an interface: W of the left side rightwards, W of the right side leftwards, P, and what the bed takes of either side's thrust,
 // S(h) − S(h*). N is rightward − leftward; of a cell, S(own h* at the right) − S(own h* at the left) is what is lost at its left less what is
 // lost at its right.
-#[derive(Clone, Copy)]
+#[derive(Clone, Copy, Default)]
 pub struct Exchange {
     pub rightward: u64,
     pub leftward: u64,
@@ -97,20 +95,14 @@ pub fn exchange_between(
     span: Divisor,
     l: SideState,
     r: SideState,
-    roots: &[u16; 64],
+    roots: &SquareRoots,
 ) -> Exchange
     requires mesh { Mesh t x × (SideStateFits l × SideStateFits r) }
-    requires span_of { SpanOf x span × RootTable roots.now }
+    requires span_of { SpanOf x span }
     ensures { ExchangeOf t x (side_of l) (side_of r) result.rightward result.leftward result.momentum result.lost_left result.lost_right × ExchangeFits result }
 {
     if l.depth + r.depth == 0 {
-        return Exchange {
-            rightward: 0,
-            leftward: 0,
-            momentum: 0,
-            lost_left: 0,
-            lost_right: 0,
-        };
+        return Exchange::default();
     }
     let hl = reduced_depth(l.depth, l.bed, r.bed);
     let hr = reduced_depth(r.depth, r.bed, l.bed);
@@ -129,6 +121,7 @@ pub fn exchange_between(
 }
 
 // The same between two sides at one bed level, as a boundary and its cell are: no depth is reduced there, and nothing lost
+// (a function of its own: called from one place alone, the sweep's loop, `exchange_between` is compiled into it, which paid 1/14 of a step when it was measured)
 pub fn exchange_level(t: u64, x: u64, span: Divisor, l: SideState, r: SideState) -> Exchange
     requires mesh { Mesh t x × (SideStateFits l × SideStateFits r) }
     requires span_of { SpanOf x span × (l.bed ≡ r.bed) }
@@ -151,13 +144,7 @@ fn nearest_to(z: i64, most: u64) -> i64
     ensures { result ≡ nearest most z }
 {
     let end = most as i64;
-    if end <= z {
-        return end;
-    }
-    if z <= -end {
-        return -end;
-    }
-    z
+    z.clamp(-end, end)
 }
 
 // q with what is gained and lost of it

@@ -3,6 +3,7 @@ use Rattle.std.specs.Prelude.{◌≡◌, Bool, true, false, List, [], ◌∷◌,
 use Rattle.reach.specs.Reach.{Reach, reach_of, no_boundary, held_with, with_totals}
 use Rattle.outlet.specs.Outlets.{no_outlet, no_outlets}
 use Rattle.outlet.specs.declared.Outlets.{Outlets}
+use Rattle.reach.specs.Refusals.{number}
 use Rattle.reach.specs.Grounds.{Ground, number_of, record_grounds}
 use Rattle.reach.specs.declared.boundary.Boundary.{Boundary}
 use Rattle.friction.specs.Friction.{strickler_fits}
@@ -13,7 +14,7 @@ use Rattle.sheet.specs.Opening.{open_grounds, empty_totals, lent, opening}
 use Rattle.writing.specs.Writing.{write_grounds, write_refusal}
 
 abbrev pub numbers : List Ground → List ℕ
-numbers gs = map (λ g. g.number) gs
+numbers gs = map (λ g. number g.refusal) gs
 
 abbrev pub standing : List Ground → List Bool
 standing gs = map (λ g. g.stands) gs

@@ -22,8 +22,7 @@ use Rattle.reach.specs.Grounds.{Ground, first_refusal, record_grounds, cell_leng
 use Rattle.reach.specs.Parts.{drawn_from}
 use Rattle.reach.specs.Outcome.{Outcome}
 use Rattle.reach.specs.declared.boundary.Boundary.{Boundary}
-use Rattle.reach.specs.declared.refusal.Check.{Check}
-use Rattle.reach.specs.declared.refusal.Check.TheVariants.{Pass}
+use Rattle.reach.specs.Grounds.{Verdict}
 use Rattle.reach.proofs.GroundsLaws.{stood, go_on, further, passed_first}
 use Rattle.reach.proofs.PartsLaws.{outflow_is}
 use Rattle.reach.proofs.Sound.{boundary_sound, CarriedSound, Sound, sound, stands, outlets_few}
@@ -38,6 +37,7 @@ use Rattle.writing.specs.RoundTrip.{LentFor, read_back, ReadsBack, InWritersOrde
 use Rattle.encoding.proofs.ToBytesLaws.{length_column}
 use Rattle.writing.proofs.WritingLaws.{length_boundary, length_header}
 use Rattle.encoding.proofs.BytesBack.{number_past, word_back, column_back, bits4_below, bits8_below, twos_bits4, twos_bits8, AllBytes, all_bytes, joined, column_again, turned_again, bits_twos4, bits_twos8}
+use Rattle.std.specs.Prelude.{Ok}
 
 -- ---- the header read back
 
@@ -374,11 +374,11 @@ module _ (t : List ℕ) (n X : ℕ) (es : List Boundary) (h : Headed t n X es) (
       on _ _ (eq-eqb _ _ (k.beds ∙ c)) (on _ _ (eq-eqb _ _ (k.depths ∙ c)) (on _ _ (eq-eqb _ _ (k.discharges ∙ c)) (on _ _ (eq-eqb _ _ (k.masses ∙ c))
       (on _ _ (eq-eqb _ _ (k.bases ∙ c)) (only _ ∙ eq-eqb _ _ (k.interfaces ∙ ap (λ (j : ℕ). j + 1) c))))))
 
-no_grounds : first_refusal [] ≡ Pass
+no_grounds : first_refusal [] ≡ Ok tt
 unfolding first_refusal
 no_grounds = refl
 
-opens : (s l : Reach) → first_refusal (record_grounds s s.held.boundaries) ≡ Pass → none_carried s.carried ≡ true → none_drawn s.held.outlets ≡ true
+opens : (s l : Reach) → first_refusal (record_grounds s s.held.boundaries) ≡ Ok tt → none_carried s.carried ≡ true → none_drawn s.held.outlets ≡ true
     → length s.held.boundaries ≡ 2 → LentFor (cells s) l → outlets_fit (cells s) l.held.outlets ≡ true
     → opening (sheet_bytes s) l ≡ record { refusal = 0; reach = read_back s l.held.outlets }
 opens s l e f d two lf of =
@@ -393,7 +393,7 @@ opens s l e f d two lf of =
     let es = s.held.boundaries in
     let same = record_back s os k f d two in
     let gs = open_grounds t (length l.bed) (length l.depth) (length l.discharge) (length l.mass) (length l.base) (length l.carried) os in
-    let passes : first_refusal gs ≡ Pass =
+    let passes : first_refusal gs ≡ Ok tt =
     go_on _ _ (edition_stands t n X es h long)
     (go_on _ _ (size_stands t n X es h long k.some k.few)
     (go_on _ _ (clear_stands t n X es h long)
@@ -405,15 +405,15 @@ opens s l e f d two lf of =
     no_grounds))))))) in
     accepted t l passes ∙ ap (λ (r : Reach). record { refusal = 0; reach = r }) same
 
-output_passed : (s : Reach) (out : List ℕ) → write_refusal s (length out) ≡ Pass → output_after s out ≡ written (sheet_bytes s) out
+output_passed : (s : Reach) (out : List ℕ) → write_refusal s (length out) ≡ Ok tt → output_after s out ≡ written (sheet_bytes s) out
 unfolding output_after
-output_passed s out e = ap (λ (k : Check). output_by k s out) e
+output_passed s out e = ap (λ (k : Verdict). output_by k s out) e
 
 written_first : (p out : List ℕ) (n : ℕ) → length p ≡ n → take n (written p out) ≡ p
 unfolding written
 written_first p out n e = take_at p (drop (length p) out) n e
 
-write_grounds_lem : (s : Reach) (room : ℕ) → write_refusal s room ≡ Pass → first_refusal (write_grounds s room) ≡ Pass
+write_grounds_lem : (s : Reach) (room : ℕ) → write_refusal s room ≡ Ok tt → first_refusal (write_grounds s room) ≡ Ok tt
 unfolding write_refusal
 write_grounds_lem s room e = e
 
@@ -516,8 +516,8 @@ unfolding sheet_record none_drawn
 opened_undrawn s os few =
     rw (cleared_count os) (all_below_lem _ os.count (λ k l. eq-eqb (outlet_at (cleared os) k).drawn 0 (ap (λ (o : Outlet). o.drawn) (cleared_at os few k l))))
 
-write_passes : (r : Reach) (room : ℕ) → first_refusal (record_grounds r r.held.boundaries) ≡ Pass → none_carried r.carried ≡ true → none_drawn r.held.outlets ≡ true
-    → sheet_size (cells r) ≤ room → write_refusal r room ≡ Pass
+write_passes : (r : Reach) (room : ℕ) → first_refusal (record_grounds r r.held.boundaries) ≡ Ok tt → none_carried r.carried ≡ true → none_drawn r.held.outlets ≡ true
+    → sheet_size (cells r) ≤ room → write_refusal r room ≡ Ok tt
 unfolding write_refusal room_fits
 write_passes r room e f d g =
     further (record_grounds r r.held.boundaries) _ e ∙ go_on _ _ (and_both (none_carried r.carried) (none_drawn r.held.outlets) f d) (go_on _ _ (le-leb _ _ g) no_grounds)
@@ -610,10 +610,10 @@ written_again sheet l out bytes order opened room =
     let b = all_bytes sheet bytes in
     let k = opened_sound sheet _ _ _ _ _ _ os p in
     let long = opened_long sheet (g 1) in
-    let fits : write_refusal r (length out) ≡ Pass
+    let fits : write_refusal r (length out) ≡ Ok tt
     = write_passes r (length out) (stands r r.held.boundaries k k.boundaries) (opened_transported sheet os) (opened_undrawn sheet os (outlets_few (count_of sheet) os (g 7)))
     (omega (arith, room, ap sheet_size (cells_are sheet b os), long)) in
     let same : (opening sheet l).reach ≡ r = ap (λ (o : Outcome). o.reach) (accepted sheet l p) in
     let again : sheet_bytes r ≡ sheet = sheet_again sheet b os (opened_headed sheet (g 0) (g 1) (in_place sheet long (g 2) order)) long (g 5) in
-    subst (λ (x : Reach). (write_refusal x (length out) ≡ Pass) × (output_after x out ≡ written sheet out)) (sym same)
+    subst (λ (x : Reach). (write_refusal x (length out) ≡ Ok tt) × (output_after x out ≡ written sheet out)) (sym same)
     (fits, output_passed r out fits ∙ ap (λ (t : List ℕ). written t out) again)

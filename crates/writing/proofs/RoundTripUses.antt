@@ -1,31 +1,24 @@
 -- The round trip as it is used: of what a write and an opening came to, one after the other, for any number of cells.
-use mathlib.Core.Path.{◌≡◌, refl, sym, ap, ◌∙◌}
+use mathlib.Core.Path.{◌≡◌, sym, ap, ◌∙◌}
 use mathlib.Core.Bool.{true}
 use mathlib.Core.List.{List}
 use Prim.Native.Nat.{ℕ, ◌≤◌, ◌<◌}
-use native.Mathlib.Omega.{arith}
 use lib.ListN.{length, get_or, take}
 use Rattle.reach.specs.Reach.{Reach, cells}
-use Rattle.reach.specs.Grounds.{first_refusal, number_of, outlets_fit}
-use Rattle.reach.specs.declared.refusal.Check.{Check}
-use Rattle.reach.specs.declared.refusal.Check.TheVariants.{Pass, Refused}
-use Rattle.reach.proofs.GroundsLaws.{numbered, refused_number}
+use Rattle.reach.specs.Grounds.{number_of, outlets_fit}
+use Rattle.reach.proofs.GroundsLaws.{accepts}
 use Rattle.sheet.specs.Header.{sheet_size}
 use Rattle.sheet.specs.Opening.{opening}
 use Rattle.encoding.specs.ToBytes.{written}
-use Rattle.writing.specs.Writing.{write_grounds, write_refusal, output_after, WriteCameTo}
+use Rattle.writing.specs.Writing.{write_refusal, output_after, WriteCameTo}
 use Rattle.writing.specs.RoundTrip.{LentFor, read_back, InWritersOrder}
 use Rattle.writing.specs.declared.write.WriteAnswer.{WriteAnswer}
 use Rattle.writing.proofs.RoundTripLaws.{reads_back, written_again}
+use Rattle.std.specs.Prelude.{Ok}
 
 -- a write that answers 0 stood all its grounds
-pub write_passes : (s : Reach) (room : ℕ) → number_of (write_refusal s room) ≡ 0 → write_refusal s room ≡ Pass
-unfolding write_refusal numbered
-write_passes s room = go (first_refusal (write_grounds s room)) refl
-  where
-    go : (k : Check) → first_refusal (write_grounds s room) ≡ k → number_of k ≡ 0 → k ≡ Pass
-    go Pass e z = refl
-    go (Refused n) e z = absurd (omega (arith, z, refused_number (write_grounds s room) n refl e))
+pub write_passes : (s : Reach) (room : ℕ) → number_of (write_refusal s room) ≡ 0 → write_refusal s room ≡ Ok tt
+write_passes s room = accepts (write_refusal s room)
 
 pub write_then_open : (s : Reach) (out : List ℕ) {w : WriteAnswer} {out' : List ℕ} → WriteCameTo s out w out' → w.refusal ≡ 0 → length s.held.boundaries ≡ 2
     → (l : Reach) → LentFor (cells s) l → outlets_fit (cells s) l.held.outlets ≡ true

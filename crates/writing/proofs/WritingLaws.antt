@@ -2,23 +2,26 @@
 use mathlib.Core.Path.{◌≡◌, refl, sym, ap, ◌∙◌}
 use mathlib.Core.Bool.{true, false}
 use mathlib.Core.List.{List, [], ◌∷◌, ◌++◌, append_assoc, map}
-use Prim.Native.Nat.{ℕ, ◌+◌, ◌-◌, ◌*◌, ◌≤◌, ◌<◌}
+use Prim.Native.Nat.{ℕ, ◌+◌, ◌-◌, ◌*◌, ◌≤◌}
 use native.Mathlib.Omega.{arith}
 use lib.ListN.{length, take, drop, length-append, length-map}
-use borrow.Author.Tests.{le-leb, lt-leb, leb-true}
+use borrow.Author.Tests.{leb-true}
 use borrow.Rule.Slice.PartMut.{put_mid}
 use Rattle.reach.specs.Reach.{Reach, cells, left_boundary, right_boundary}
 use Rattle.reach.specs.Grounds.{first_refusal, number_of, pass_or, record_grounds}
 use Rattle.reach.specs.declared.boundary.Boundary.{Boundary}
-use Rattle.reach.specs.declared.refusal.Check.{Check}
-use Rattle.reach.specs.declared.refusal.Check.TheVariants.{Pass, Refused}
-use Rattle.reach.proofs.GroundsLaws.{refuses, stood, go_on, stop_at, last_one, further, passed_first, no_further}
+use Rattle.reach.specs.Grounds.{Verdict}
+use Rattle.reach.proofs.GroundsLaws.{stood, go_on, stop_at, last_one, further, passed_first, no_further}
 use Rattle.reach.proofs.Sound.{Sound, sound}
 use Rattle.encoding.proofs.ToBytesLaws.{written_part, next, length_column}
 use Rattle.sheet.specs.Header.{sheet_size}
 use Rattle.encoding.specs.ToBytes.{bytes_of, bits, column_bytes, written}
 use Rattle.writing.specs.Writing.{boundary_bytes, beds_from, depths_from, discharges_from, masses_from, header_bytes, sheet_bytes, none_carried, none_drawn, room_fits, write_grounds, write_refusal, output_by, output_after, written_with, WriteCameTo}
 use Rattle.writing.specs.declared.write.WriteAnswer.{WriteAnswer}
+use Rattle.std.specs.Prelude.{Ok, Err}
+use Rattle.reach.specs.Refusals.{number}
+use Rattle.reach.specs.declared.refusal.Refusal.{Refusal}
+use Rattle.reach.specs.declared.refusal.Refusal.TheVariants as refusal
 
 -- ---- the header
 
@@ -83,63 +86,50 @@ module _ (s : Reach) (out₀ : List ℕ)
       ∙ ap (λ (b : List ℕ). written b out₀)
       (append_assoc ((p ++ f1) ++ f2) f3 f4 ∙ append_assoc (p ++ f1) f2 (f3 ++ f4) ∙ append_assoc p f1 (f2 ++ (f3 ++ f4)))
 
--- ---- ground 15
-
-pub room_is : (n room : ℕ) → 80 + 24 * n ≤ room → room_fits n room ≡ true
-unfolding room_fits sheet_size
-room_is n room l = le-leb _ _ l
-
-pub room_short : (n room : ℕ) → room < 80 + 24 * n → room_fits n room ≡ false
-unfolding room_fits sheet_size
-room_short n room l = lt-leb _ _ l
-
 -- ---- the grounds of a write, in checking order
 module _ (s : Reach) (room : ℕ) where
-  pub stopped_before : (n : ℕ) → first_refusal (record_grounds s s.held.boundaries) ≡ Refused n → write_refusal s room ≡ Refused n
+  pub stopped_before : (r : Refusal) → first_refusal (record_grounds s s.held.boundaries) ≡ Err r → write_refusal s room ≡ Err r
   unfolding write_refusal
-  stopped_before n e = no_further (record_grounds s s.held.boundaries) _ n e
+  stopped_before r e = no_further (record_grounds s s.held.boundaries) _ r e
 
   -- the record stands, so 14 decides, of the carried water first
-  module _ (e : first_refusal (record_grounds s s.held.boundaries) ≡ Pass) where
-    pub stopped_carried : none_carried s.carried ≡ false → write_refusal s room ≡ Refused 14
+  module _ (e : first_refusal (record_grounds s s.held.boundaries) ≡ Ok tt) where
+    pub stopped_carried : none_carried s.carried ≡ false → write_refusal s room ≡ Err refusal.NotTransported
     unfolding write_refusal
     stopped_carried f = further (record_grounds s s.held.boundaries) _ e ∙ stop_at _ _ (rw f refl)
 
-    pub stopped_drawn : none_carried s.carried ≡ true → none_drawn s.held.outlets ≡ false → write_refusal s room ≡ Refused 14
+    pub stopped_drawn : none_carried s.carried ≡ true → none_drawn s.held.outlets ≡ false → write_refusal s room ≡ Err refusal.NotTransported
     unfolding write_refusal
     stopped_drawn f g = further (record_grounds s s.held.boundaries) _ e ∙ stop_at _ _ (rw (f, g) refl)
 
-    pub room_left : none_carried s.carried ≡ true → none_drawn s.held.outlets ≡ true → write_refusal s room ≡ pass_or 15 (room_fits (cells s) room)
+    pub room_left : none_carried s.carried ≡ true → none_drawn s.held.outlets ≡ true → write_refusal s room ≡ pass_or refusal.ShortOutput (room_fits (cells s) room)
     unfolding write_refusal
-    room_left f g = further (record_grounds s s.held.boundaries) _ e ∙ go_on _ _ (rw (f, g) refl) (last_one 15 _)
-
-    pub stopped_15 : none_carried s.carried ≡ true → none_drawn s.held.outlets ≡ true → room_fits (cells s) room ≡ false → write_refusal s room ≡ Refused 15
-    stopped_15 f g h = room_left f g ∙ sym (refuses 15 h)
+    room_left f g = further (record_grounds s s.held.boundaries) _ e ∙ go_on _ _ (rw (f, g) refl) (last_one refusal.ShortOutput _)
 
   -- what an accepted write tells
-  pub write_sound : write_refusal s room ≡ Pass → Sound s
+  pub write_sound : write_refusal s room ≡ Ok tt → Sound s
   unfolding write_refusal
   write_sound e = sound s s.held.boundaries (passed_first (record_grounds s s.held.boundaries) _ e)
 
-  pub write_room : write_refusal s room ≡ Pass → sheet_size (cells s) ≤ room
+  pub write_room : write_refusal s room ≡ Ok tt → sheet_size (cells s) ≤ room
   unfolding write_refusal room_fits
   write_room e = leb-true _ _ (stood (write_grounds s room) e 9)
 
 -- ---- what each outcome of a write is
 module _ (s : Reach) (out : List ℕ) where
-  pub refused_write : (n : ℕ) (r : WriteAnswer) → write_refusal s (length out) ≡ Refused n → r ≡ written_with n s.held → WriteCameTo s out r out
+  pub refused_write : (n : Refusal) (r : WriteAnswer) → write_refusal s (length out) ≡ Err n → r ≡ written_with (number n) s.held → WriteCameTo s out r out
   unfolding output_after
   refused_write n r e a = record {
     refusal_is = ap (λ (r : WriteAnswer). r.refusal) a ∙ sym (ap number_of e);
     held_is = ap (λ (r : WriteAnswer). r.held) a;
-    output_is = sym (ap (λ (k : Check). output_by k s out) e);
+    output_is = sym (ap (λ (k : Verdict). output_by k s out) e);
   }
 
-  pub accepted_write : (out' : List ℕ) → write_refusal s (length out) ≡ Pass → out' ≡ written (sheet_bytes s) out
+  pub accepted_write : (out' : List ℕ) → write_refusal s (length out) ≡ Ok tt → out' ≡ written (sheet_bytes s) out
       → WriteCameTo s out (written_with 0 s.held) out'
   unfolding output_after
   accepted_write out' e a = record {
     refusal_is = sym (ap number_of e);
     held_is = refl;
-    output_is = a ∙ sym (ap (λ (k : Check). output_by k s out) e);
+    output_is = a ∙ sym (ap (λ (k : Verdict). output_by k s out) e);
   }

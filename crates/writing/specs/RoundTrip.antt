@@ -5,11 +5,11 @@ use Rattle.outlet.specs.Outlets.{cleared}
 use Rattle.outlet.specs.declared.Outlets.{Outlets}
 use Rattle.reach.specs.Reach.{Reach, cells, reach_of, held_with}
 use Rattle.reach.specs.Grounds.{outlets_fit}
-use Rattle.reach.specs.declared.refusal.Check.TheVariants.{Pass}
 use Rattle.sheet.specs.Header.{sheet_size, beds_at, depths_at, discharges_at, masses_at}
 use Rattle.sheet.specs.Opening.{empty_ledger, opening}
 use Rattle.encoding.specs.ToBytes.{written}
 use Rattle.writing.specs.Writing.{write_refusal, output_after}
+use Rattle.std.specs.Prelude.{Ok}
 
 -- columns lent to an opening have the lengths that n cells want
 pub record LentFor (n : ℕ) (l : Reach) : Type 0 where
@@ -32,7 +32,7 @@ abbrev pub ReadsBack : Type 0
 ReadsBack =
     (s : Reach) (out : List ℕ) (l : Reach) →
     length s.held.boundaries ≡ 2 →
-    write_refusal s (length out) ≡ Pass →
+    write_refusal s (length out) ≡ Ok tt →
     LentFor (cells s) l →
     outlets_fit (cells s) l.held.outlets ≡ true →
     opening (take (sheet_size (cells s)) (output_after s out)) l ≡ record { refusal = 0; reach = read_back s l.held.outlets }
@@ -52,4 +52,4 @@ WrittenAgain =
     InWritersOrder sheet →
     (opening sheet l).refusal ≡ 0 →
     length sheet ≤ length out →
-    (write_refusal (opening sheet l).reach (length out) ≡ Pass) × (output_after (opening sheet l).reach out ≡ written sheet out)
+    (write_refusal (opening sheet l).reach (length out) ≡ Ok tt) × (output_after (opening sheet l).reach out ≡ written sheet out)

@@ -7,11 +7,12 @@ use Rattle.reach.specs.Reach.{Reach, cells, left_boundary, right_boundary}
 use Rattle.reach.specs.Grounds.{Ground, ground, first_refusal, number_of, record_grounds}
 use Rattle.reach.specs.declared.boundary.Boundary.{Boundary}
 use Rattle.reach.specs.declared.held.Held.{Held}
-use Rattle.reach.specs.declared.refusal.Check.{Check}
-use Rattle.reach.specs.declared.refusal.Check.TheVariants.{Pass, Refused}
+use Rattle.reach.specs.Grounds.{Verdict}
 use Rattle.sheet.specs.Header.{header_size, sheet_size}
 use Rattle.encoding.specs.ToBytes.{bits, column_bytes, written}
 use Rattle.writing.specs.declared.write.WriteAnswer.{WriteAnswer}
+use Rattle.std.specs.Prelude.{Ok, Err}
+use Rattle.reach.specs.declared.refusal.Refusal.TheVariants as refusal
 
 -- ---- the bytes of a sheet
 
@@ -63,14 +64,14 @@ room_fits n room = leb (sheet_size n) room
 abbrev pub write_grounds : Reach → (room : ℕ) → List Ground
 write_grounds s room =
     record_grounds s s.held.boundaries
-    ++ (ground 14 (none_carried s.carried && none_drawn s.held.outlets) ∷ ground 15 (room_fits (cells s) room) ∷ [])
+    ++ (ground refusal.NotTransported (none_carried s.carried && none_drawn s.held.outlets) ∷ ground refusal.ShortOutput (room_fits (cells s) room) ∷ [])
 
 -- the sheet stands at the start of the output, whose other bytes keep their values; a refused write leaves the output as it came
-abbrev pub output_by : Check → Reach → (out : List ℕ) → List ℕ
-output_by Pass s out = written (sheet_bytes s) out
-output_by (Refused n) s out = out
+abbrev pub output_by : Verdict → Reach → (out : List ℕ) → List ℕ
+output_by (Ok u) s out = written (sheet_bytes s) out
+output_by (Err r) s out = out
 
-unfoldable pub write_refusal : Reach → (room : ℕ) → Check
+unfoldable pub write_refusal : Reach → (room : ℕ) → Verdict
 write_refusal s room = first_refusal (write_grounds s room)
 
 unfoldable pub output_after : Reach → (out : List ℕ) → List ℕ

@@ -15,7 +15,7 @@ fn put_boundary(out: &mut [u8], e: Boundary)
     requires { (24 ≤ length out.old) × (nat_abs e.discharge < 9_223_372_036_854_775_808) }
     ensures { out.new ≡ written (boundary_bytes e) out.old }
 {
-    let words = [e.kind as u64, e.depth, e.concentration, 0];
+    let words = [u64::from(e.kind), e.depth, e.concentration, 0];
     fill(out, 4, &words);
     let discharge = [bits_in(HALF_8, e.discharge)];
     fill(&mut out[16..], 8, &discharge);
@@ -39,8 +39,7 @@ pub fn put_header(out: &mut [u8], n: u64, x: u64, boundaries: [Boundary; 2])
         first + 16 * n,
     ];
     fill(out, 4, &words);
-    let left = boundaries[0];
+    let [left, right] = boundaries;
     put_boundary(&mut out[32..], left);
-    let right = boundaries[1];
     put_boundary(&mut out[56..], right);
 }

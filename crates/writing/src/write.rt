@@ -3,7 +3,8 @@ ghost use Rattle.std.specs.Prelude.{◌≡◌, [], ℕ, ◌≤◌, ◌<◌, pos,
 ghost use Rattle.outlet.specs.Outlets.{outlets_most, no_outlets};
 ghost use Rattle.reach.specs.Limits.{cells_most};
 ghost use Rattle.reach.specs.Reach.{reach_of, came, left_boundary, right_boundary, held_with};
-ghost use Rattle.reach.specs.Grounds.{number_of, pass_or};
+ghost use Rattle.reach.specs.Refusals.{number};
+ghost use Rattle.reach.specs.Grounds.{pass_or};
 ghost use Rattle.sheet.specs.Header.{sheet_size};
 ghost use Rattle.sheet.specs.Opening.{empty_ledger};
 ghost use Rattle.encoding.specs.ToBytes.{written};
@@ -11,12 +12,11 @@ ghost use Rattle.writing.specs.Writing.{sheet_bytes, none_carried, none_drawn, r
 
 use super::header::put_header;
 use encoding::putting::{put_column, put_signed};
-use numbers::signed::magnitude;
 use outlet::Outlets;
 use reach::boundary::Boundary;
 use reach::check_record;
 use reach::held::Held;
-use reach::refusal::Check;
+use reach::refusal::Refusal;
 use sheet::header::{HALF_4, HALF_8, HEADER_SIZE};
 
 // What a write hands back: 0 or the number of its refusal, and the boundaries, the ledger and the outlets as they came.
@@ -28,46 +28,37 @@ pub struct WriteAnswer {
 }
 
 // Ground 14, of the carried water
-fn check_none_carried(carried: &[i64]) -> Check
-    ensures { result ≡ pass_or 14 (none_carried carried.now) }
+fn check_none_carried(carried: &[i64]) -> Result<(), Refusal>
+    ensures { result ≡ pass_or Refusal.NotTransported (none_carried carried.now) }
 {
-    let n = carried.len();
-    let mut i = 0;
-    while i < n {
-        if magnitude(carried[i]) != 0 {
-            return Check::Refused(14);
+    for c in carried {
+        if *c != 0 {
+            return Err(Refusal::NotTransported);
         }
-        i += 1;
     }
-    Check::Pass
+    Ok(())
 }
 
 // Ground 14, of the water that the outlets have drawn, of a list that is not too long
-fn check_none_drawn(outlets: Outlets) -> Check
+fn check_none_drawn(outlets: Outlets) -> Result<(), Refusal>
     requires { outlets.count ≤ outlets_most }
-    ensures { result ≡ pass_or 14 (none_drawn outlets) }
+    ensures { result ≡ pass_or Refusal.NotTransported (none_drawn outlets) }
 {
-    let count = outlets.count;
-    let mut k = 0;
-    while k < count {
-        let o = outlets.list[k];
-        if o.drawn != 0 {
-            return Check::Refused(14);
+    for k in 0..outlets.count {
+        if outlets.list[k].drawn != 0 {
+            return Err(Refusal::NotTransported);
         }
-        k += 1;
     }
-    Check::Pass
+    Ok(())
 }
 
 // Ground 15, of n cells and an output of `room` bytes
-fn check_room(n: usize, room: usize) -> Check
+#[tactic(auto, unfolding(crate::specs::Writing::room_fits, sheet::specs::Header::sheet_size))]
+fn check_room(n: usize, room: usize) -> Result<(), Refusal>
     requires { n ≤ cells_most }
-    ensures { result ≡ pass_or 15 (room_fits n room) }
+    ensures { result ≡ pass_or Refusal.ShortOutput (room_fits n room) }
 {
-    if room < HEADER_SIZE + 24 * n {
-        return Check::Refused(15);
-    }
-    Check::Pass
+    Refusal::ShortOutput.unless(HEADER_SIZE + 24 * n <= room)
 }
 
 fn check_write(
@@ -80,27 +71,17 @@ fn check_write(
     x: u64,
     held: Held,
     room: usize,
-) -> Check
+) -> Result<(), Refusal>
     ensures { result ≡ write_refusal (came bed.now depth.now discharge.now mass.now base.now carried.now x held) room }
 {
     let boundaries = held.boundaries;
-    let checked = check_record(
+    check_record(
         bed, depth, discharge, mass, base, carried, x, held, boundaries,
-    );
-    let Check::Pass = checked else {
-        return checked;
-    };
-    let Check::Pass = check_none_carried(carried) else {
-        return Check::Refused(14);
-    };
+    )?;
+    check_none_carried(carried)?;
     let outlets = held.outlets;
-    let Check::Pass = check_none_drawn(outlets) else {
-        return Check::Refused(14);
-    };
-    let Check::Pass = check_room(bed.len(), room) else {
-        return Check::Refused(15);
-    };
-    Check::Pass
+    check_none_drawn(outlets)?;
+    check_room(bed.len(), room)
 }
 
 // The whole sheet, at the start of out. Each column is filled from its own offset on. A sheet has no base depths, carried water, ledger or outlets.
@@ -128,13 +109,13 @@ fn put_sheet(
     put_column(out, HEADER_SIZE + 16 * n, 8, mass);
 }
 
-fn refused(k: Check, held: Held) -> WriteAnswer
-    ensures { result ≡ written_with (number_of k) held }
+fn refused(r: Refusal, held: Held) -> WriteAnswer
+    ensures { result ≡ written_with (number r) held }
 {
-    let Check::Refused(n) = k else {
-        return WriteAnswer { refusal: 0, held };
-    };
-    WriteAnswer { refusal: n, held }
+    WriteAnswer {
+        refusal: r.into(),
+        held,
+    }
 }
 
 // Writes a record that carries nothing, and of which nothing is drawn, as a sheet at the start of out.
@@ -151,7 +132,7 @@ pub fn write_sheet(
 ) -> WriteAnswer
     ensures { WriteCameTo (came bed.now depth.now discharge.now mass.now base.now carried.now x held) out.old result out.new }
 {
-    let checked = check_write(
+    if let Err(r) = check_write(
         bed,
         depth,
         discharge,
@@ -161,10 +142,9 @@ pub fn write_sheet(
         x,
         held,
         out.len(),
-    );
-    let Check::Pass = checked else {
-        return refused(checked, held);
-    };
+    ) {
+        return refused(r, held);
+    }
     let boundaries = held.boundaries;
     put_sheet(out, bed, depth, discharge, mass, x, boundaries);
     WriteAnswer { refusal: 0, held }

@@ -30,10 +30,15 @@ fn body(path: &str, name: &str) -> String {
 }
 
 fn body_in<'a>(text: &'a str, name: &str) -> &'a str {
-    let (_, from) = text.split_once(&format!("fn {name}(")).expect(name);
-    let (head, from) = from.split_once("\n{\n").expect("its first brace");
+    let (before, from) = text.split_once(&format!("fn {name}(")).expect(name);
+    // a method stands further in
+    let line = before.rsplit('\n').next().unwrap();
+    let margin = &line[..line.len() - line.trim_start().len()];
+    let first = format!("\n{margin}{{\n");
+    let (head, from) = from.split_once(&first).expect("its first brace");
     assert!(!head.contains("fn "), "{name} has no contract");
-    let (body, _) = from.split_once("\n}\n").expect("its last brace");
+    let last = format!("\n{margin}}}\n");
+    let (body, _) = from.split_once(&last).expect("its last brace");
     body
 }
 
@@ -70,24 +75,35 @@ fn used(text: &str) -> Vec<String> {
         .collect()
 }
 
-/// The module that a name called in this module comes from.
-fn home(path: &str, name: &str) -> String {
-    let text = source(path);
-    if text.contains(&format!("fn {name}(")) {
-        return path.to_string();
-    }
-    let line = used(&text)
-        .into_iter()
-        .find(|u| u.ends_with(&format!("::{name}")));
-    let from = line.unwrap_or_else(|| panic!("{path}: where is {name} from?"));
-    let from = from.strip_suffix(&format!("::{name}")).unwrap();
+/// The module of an item that a module brings in.
+fn module_of(path: &str, item: &str) -> String {
+    let (from, _) = item.rsplit_once("::").expect("a module and a name");
     match from.strip_prefix("super::") {
         Some(module) => format!("{}::{module}", path.split("::").next().unwrap()),
         None => from.to_string(),
     }
 }
 
-/// A function and all that it calls, each with its body.
+/// The module that a name called in this module comes from: itself, one that it is brought in from, or that of a type that is brought in, whose method it is.
+/// What is none of these is the library's own or a derive's, and has no text here.
+fn home(path: &str, name: &str) -> Option<String> {
+    let text = source(path);
+    let has = |text: &str| text.contains(&format!("fn {name}("));
+    if has(&text) {
+        return Some(path.to_string());
+    }
+    let used = used(&text);
+    let named = used.iter().find(|u| u.ends_with(&format!("::{name}")));
+    if let Some(item) = named {
+        return Some(module_of(path, item));
+    }
+    let of_a_type = used.iter().map(|item| module_of(path, item));
+    of_a_type
+        .filter(|module| module.contains("::"))
+        .find(|module| has(&source(module)))
+}
+
+/// A function and all that it calls, each with its body; what has no text is named as `std`'s.
 fn with_called(path: &str, name: &str) -> BTreeMap<String, String> {
     let mut found = BTreeMap::new();
     let mut open = vec![(path.to_string(), name.to_string())];
@@ -95,7 +111,12 @@ fn with_called(path: &str, name: &str) -> BTreeMap<String, String> {
         let body = body(&path, &name);
         let names = called(&body);
         if found.insert(format!("{path}::{name}"), body).is_none() {
-            open.extend(names.iter().map(|c| (home(&path, c), c.clone())));
+            for c in names {
+                match home(&path, &c) {
+                    Some(module) => open.push((module, c)),
+                    None => drop(found.insert(format!("std::{c}"), String::new())),
+                }
+            }
         }
     }
     found

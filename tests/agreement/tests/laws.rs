@@ -5,8 +5,9 @@ use std::collections::HashSet;
 use std::fs;
 use std::path::{Path, PathBuf};
 
-/// They stand at the end: each shows by itself that a contract says its call's definition, or that a statement is of every list.
-const PINS: [&str; 33] = [
+/// They stand at the end: each shows by itself that a contract says its call's definition, or that a statement is of every list, is where an edit of a definition
+/// falls, or is a law of texts that the pages name.
+const PINS: [&str; 39] = [
     "open_says",
     "step_says",
     "transport_says",
@@ -40,28 +41,12 @@ const PINS: [&str; 33] = [
     "greatest_post",
     "write_pre",
     "write_post",
-];
-
-/// Laws that were cited by proofs of the older kit, and that today's prover does without. They may go with the next change of their crates.
-const IDLE: [&str; 18] = [
-    "put_one",
-    "putting_none",
-    "counting_first",
-    "cube",
-    "cube_low",
-    "copying_none",
-    "copying_long",
-    "stride",
-    "filling_done",
-    "mapping_none",
-    "mapping_done",
     "slowed_none",
     "slowed_all",
-    "leftward_kept",
-    "rightward_kept",
-    "kept_most",
-    "abs_fits",
-    "le_z_is",
+    "laid",
+    "laid_then",
+    "putting_more",
+    "putting_all",
 ];
 
 struct Source {
@@ -196,7 +181,6 @@ fn every_definition_and_law_is_used() {
             looked_at += 1;
             let import = format!("{krate} {kind}.{module} {name}");
             if !PINS.contains(&name)
-                && !IDLE.contains(&name)
                 && !imported.contains(&import)
                 && !used_here(&source.text, name)
             {

@@ -44,7 +44,7 @@ cell c =
 pub loop-i-init : goal.loop-i-init
 loop-i-init c =
     let a = c.args in
-    ((omega arith, omega arith), from_last _ _ _ _ (omega arith) (omega (arith, speed_of_right a.depth.now a.discharge.now a.left a.right)))
+    (omega arith, from_last _ _ _ _ (omega arith) (omega (arith, speed_of_right a.depth.now a.discharge.now a.left a.right)))
 
 pub overflow_add-speed : goal.overflow_add-speed
 overflow_add-speed c = omega (arith, c.wave_speed.ensures, (cell (goal.at.overflow_add-speed c).After-flow_speed-v).1)
@@ -55,13 +55,13 @@ loop-i-preserved-then-is_above c =
     let a = c.wave_speed.ensures in
     let w = cell (goal.at.loop-i-preserved-then-is_above c).After-flow_speed-v in
     let above = sym c.is_above.ensures ∙ c.if-is_above.true in
-    ((omega arith, omega arith), from_taken _ _ _ _ _ _ _ _ l.invariant.1 (omega arith) (omega arith) (omega arith) (omega arith) (omega (arith, ltb-true)))
+    (omega arith, from_taken _ _ _ _ _ _ _ _ l.invariant.1 (omega arith) (omega arith) (omega arith) (omega arith) (omega (arith, ltb-true)))
 
 pub loop-i-preserved : goal.loop-i-preserved
 loop-i-preserved c =
     let l = c.loop-i in
     let notAbove = sym c.is_above.ensures ∙ c.if-is_above.false in
-    ((omega arith, omega arith), from_passed _ _ _ _ _ _ _ l.invariant.1 (omega arith) (cell (goal.at.loop-i-preserved c).After-flow_speed-v).0 (omega (arith, ltb-false)))
+    (omega arith, from_passed _ _ _ _ _ _ _ l.invariant.1 (omega arith) (cell (goal.at.loop-i-preserved c).After-flow_speed-v).0 (omega (arith, ltb-false)))
 
 pub returns-then-speed-left : goal.returns-then-speed-left
 unfolding speed_at

@@ -1,6 +1,5 @@
 -- `driver::resume` meets its contract: what is left of the list, of the memory at hand, leads where the whole list leads. Assumes nothing.
 use mathlib.Core.Path.{refl, sym, ◌∙◌}
-use native.Mathlib.Omega.{arith}
 use lib.ListN.{length}
 use Rattle.reach.specs.Reach.{Reach, reach_of}
 use Rattle.driver.proofs.DriverLaws.{played_first, played_on_lem, played_out}
@@ -16,7 +15,7 @@ reach c =
 pub loop-j-init : goal.loop-j-init
 loop-j-init c =
     let a = c.args in
-    (refl, omega arith, played_first a.words.now a.sheets.now (length a.out.now) _)
+    (refl, played_first a.words.now a.sheets.now (length a.out.now) _)
 
 pub loop-j-preserved : goal.loop-j-preserved
 loop-j-preserved c =
@@ -26,11 +25,10 @@ loop-j-preserved c =
     let p = c.play_call-p in
     let i = l.invariant in (
       i.0,
-      omega (arith, t),
-      played_on_lem a.words.now a.sheets.now (length a.out.now) _ l.j (reach (goal.at.loop-j-preserved c).At-loop-j) l.out l.answers {r = p.result} t (rw l.auto.out at p.ensures) c.note.ensures ∙ i.2,
+      played_on_lem a.words.now a.sheets.now (length a.out.now) _ l.j (reach (goal.at.loop-j-preserved c).At-loop-j) l.out l.answers {r = p.result} t (rw l.auto.out at p.ensures) c.note.ensures ∙ i.1,
     )
 
 pub returns-clause-answers_after : goal.returns-clause-answers_after
 returns-clause-answers_after c =
     let a = c.args in
-    sym (played_out a.words.now a.sheets.now (length a.out.now) _ c.loop-j.j _ c.loop-j-test.false) ∙ c.loop-j.invariant.2
+    sym (played_out a.words.now a.sheets.now (length a.out.now) _ c.loop-j.j _ c.loop-j-test.false) ∙ c.loop-j.invariant.1

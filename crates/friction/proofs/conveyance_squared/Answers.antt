@@ -9,7 +9,7 @@ use Rattle.friction.proofs.conveyance_squared.Goals as goal
 use Rattle.friction.proofs.conveyance_squared.Goals.{After-root_of, Start}
 
 square-most : (c : Start) → c.args.f * c.args.f ≤ strickler_most * strickler_most
-square-most c = mul-le-mul c.requires.0 c.requires.0
+square-most c = mul-le-mul c.requires c.requires
 
 most : (c : After-root_of) →
     let f = c.args.f in f * f * c.root_of.result ≤ conveyance_squared_most

@@ -5,4 +5,4 @@ use Rattle.jemmyfern_c.proofs.jemmyfern_greatest_step.Goals as goal
 pub returns : goal.returns
 returns c =
     greatest_returns _ _ _ _ _ _ _ _ _ _ _ _ _ _
-    c.load-list.ensures c.given_held-held.ensures c.greatest_step-a.ensures c.greatest_answer.ensures
+    c.load-list.ensures c.given_held-held.ensures c.greatest_step-a.ensures c.into.ensures

@@ -5,4 +5,4 @@ use Rattle.jemmyfern_c.proofs.jemmyfern_open.Goals as goal
 pub returns : goal.returns
 returns c =
     opening_returns _ _ _ _ _ _ _ _ _ _ _ _ _ _ _ _ _ _ _
-    c.load-list.ensures c.open_sheet-a.ensures c.room_of-room.ensures c.store.ensures c.opening_answer.ensures
+    c.load-list.ensures c.open_sheet-a.ensures c.room_of-room.ensures c.store.ensures c.into.ensures

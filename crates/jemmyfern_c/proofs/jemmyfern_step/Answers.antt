@@ -5,4 +5,4 @@ use Rattle.jemmyfern_c.proofs.jemmyfern_step.Goals as goal
 pub returns : goal.returns
 returns c =
     step_returns _ _ _ _ _ _ _ _ _ _ _ _ _ _ _ _ _ _ _ _ _ _ _
-    c.load-list.ensures c.given_held-held.ensures c.step-a.ensures c.room_of-room.ensures c.store.ensures c.step_answer.ensures
+    c.load-list.ensures c.given_held-held.ensures c.step-a.ensures c.room_of-room.ensures c.store.ensures c.into.ensures

@@ -5,4 +5,4 @@ use Rattle.jemmyfern_c.proofs.jemmyfern_transport.Goals as goal
 pub returns : goal.returns
 returns c =
     transport_returns _ _ _ _ _ _ _ _ _ _ _ _ _ _ _ _ _ _ _
-    c.load-list.ensures c.given_held-held.ensures c.transport-a.ensures c.room_of-room.ensures c.store.ensures c.transport_answer.ensures
+    c.load-list.ensures c.given_held-held.ensures c.transport-a.ensures c.room_of-room.ensures c.store.ensures c.into.ensures

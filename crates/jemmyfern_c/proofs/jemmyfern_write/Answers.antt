@@ -5,4 +5,4 @@ use Rattle.jemmyfern_c.proofs.jemmyfern_write.Goals as goal
 pub returns : goal.returns
 returns c =
     write_returns _ _ _ _ _ _ _ _ _ _ _ _ _ _ _ _
-    c.load-list.ensures c.given_held-held.ensures c.write_sheet-a.ensures c.write_answer.ensures
+    c.load-list.ensures c.given_held-held.ensures c.write_sheet-a.ensures c.into.ensures

@@ -2,7 +2,7 @@
 -- written yet is read as it came. Assumes nothing.
 use mathlib.Core.Path.{◌≡◌, sym, ap, ◌∙◌}
 use mathlib.Core.List.{[], ◌∷◌}
-use Prim.Native.Nat.{ℕ, ◌+◌, ◌≤◌, ◌<◌}
+use Prim.Native.Nat.{ℕ, ◌+◌, ◌-◌, ◌≤◌, ◌<◌}
 use native.Mathlib.Omega.{arith}
 use lib.ListN.{length, get_or}
 use Rattle.numbers.proofs.IndexLaws.{written_none, written_more, written_all}
@@ -45,7 +45,7 @@ pub loop-i-init : goal.loop-i-init
 unfolding rightwards
 loop-i-init c =
     let b = (goal.at.loop-i-init c).After-shares_at-first in
-    (some b, written_none _ _ _, c.with_share-held.ensures ∙ ap (λ (x : ℕ). x + c.args.left_in) b.shares_at-first.ensures.rest_value, first_right b)
+    (written_none _ _ _, c.with_share-held.ensures ∙ ap (λ (x : ℕ). x + c.args.left_in) b.shares_at-first.ensures.rest_value, first_right b)
 
 -- ---- a turn: cell i is written, and the next one is at hand
 
@@ -56,13 +56,16 @@ module _ (c : At-loop-i) where
   abbrev at : ℕ
   at = c.loop-i.i
 
+  inside : at < length s.mass
+  inside = let e = c.if-n-eq0.false in omega (arith, c.loop-i.auto.i-end)
+
   held_small : c.loop-i.held ≤ 4_000_000_000_000
   held_small =
       let r = c.requires in
-      omega (arith, c.loop-i.invariant.2, stayed_small s at (r.each at) c.loop-i.invariant.0, rightwards_small s r at (omega (arith, c.loop-i.invariant.0)))
+      omega (arith, c.loop-i.invariant.1, stayed_small s at (r.each at) inside, rightwards_small s r at (omega (arith, inside)))
 
   right_small : c.loop-i.right ≤ 2_000_000_000_000
-  right_small = omega (arith, c.loop-i.invariant.3, rightwards_next s at, rightwards_small s c.requires (at + 1) (omega (arith, c.loop-i.invariant.0)))
+  right_small = omega (arith, c.loop-i.invariant.2, rightwards_next s at, rightwards_small s c.requires (at + 1) (omega (arith, inside)))
 
 abbrev turn : After-shares_at-next → At-loop-i
 turn c = (goal.at.After-shares_at-next c).At-loop-i
@@ -72,15 +75,15 @@ module _ (c : After-shares_at-next) where
   next = at (turn c) + 1
 
   there : next < length (s (turn c)).mass
-  there = c.loop-i-test.true
+  there = omega (arith, c.loop-i-test.true)
 
   as_it_came : get_or (turn c).loop-i.mass next 0 ≡ get_or (s (turn c)).mass next 0
-  as_it_came = (turn c).loop-i.invariant.1.same next (omega arith)
+  as_it_came = (turn c).loop-i.invariant.0.same next (omega arith)
 
   next_shares : c.shares_at-next.result.right ∷ c.shares_at-next.result.left ∷ [] ≡ cell_shares (s (turn c)) next
   next_shares =
       c.shares_at-next.ensures.left_value
-      ∙ shares_same _ _ _ _ _ 0 0 0 (turn c).loop-i.invariant.1.long next as_it_came
+      ∙ shares_same _ _ _ _ _ 0 0 0 (turn c).loop-i.invariant.0.long next as_it_came
       ∙ shares_inside (s (turn c)) next
 
   next_left : c.shares_at-next.result.left ≡ leftwards (s (turn c)) next
@@ -92,9 +95,9 @@ module _ (c : After-shares_at-next) where
 pub shares_at-next-requires-clause-ready_at : goal.shares_at-next-requires-clause-ready_at
 shares_at-next-requires-clause-ready_at c =
     let b = (goal.at.shares_at-next-requires-clause-ready_at c).At-loop-i in
-    let w = b.loop-i.invariant.1 in
+    let w = b.loop-i.invariant.0 in
     let j = at b + 1 in
-    let l : j < length (s b).mass = c.loop-i-test.true in
+    let l : j < length (s b).mass = omega (arith, c.loop-i-test.true) in
     ready_same _ _ _ _ _ _ _ _ w.long j (w.same j (omega arith)) (ready_inside (s b) j (c.requires.each j))
 
 pub with_share-requires : goal.with_share-requires
@@ -113,9 +116,8 @@ loop-i-preserved c =
     let n = (goal.at.loop-i-preserved c).After-shares_at-next in
     let b = turn n in
     let w = b.loop-i.invariant in (
-      there n,
-      written_more 0 (moved_cell (s b)) (s b).mass (at b) _ _ w.1 w.0 (moved_by (s b) (at b) _ _ _ c.with_share.ensures w.2 (next_left n)),
-      omega (arith, c.with_share-held-in-loop-i.ensures, next_stays n, w.3, rightwards_next (s b) (at b)),
+      written_more 0 (moved_cell (s b)) (s b).mass (at b) _ _ w.0 (inside b) (moved_by (s b) (at b) _ _ _ c.with_share.ensures w.1 (next_left n)),
+      omega (arith, c.with_share-held-in-loop-i.ensures, next_stays n, w.2, rightwards_next (s b) (at b)),
       ap right_of (next_shares n),
     )
 
@@ -128,7 +130,9 @@ pub returns : goal.returns
 returns c =
     let b = (goal.at.returns c).At-loop-i in
     let w = b.loop-i.invariant in
-    let e : at b + 1 ≡ length (s b).mass = omega (arith, w.0, c.loop-i-test.false) in
-    written_all 0 (moved_cell (s b)) (s b).mass (at b + 1) _
-    (written_more 0 (moved_cell (s b)) (s b).mass (at b) _ _ w.1 w.0 (moved_by (s b) (at b) _ _ _ c.with_share-2.ensures w.2 (sym (leftwards_end (s b) (at b + 1) (omega (arith, e))))))
-    e
+    let e : at b + 1 ≡ length (s b).mass = omega (arith, inside b, c.loop-i-test.false) in
+    let last : length (s b).mass - 1 ≡ at b = omega (arith, e) in
+    rw last
+    (written_all 0 (moved_cell (s b)) (s b).mass (at b + 1) _
+    (written_more 0 (moved_cell (s b)) (s b).mass (at b) _ _ w.0 (inside b) (moved_by (s b) (at b) _ _ _ c.with_share-2.ensures w.1 (sym (leftwards_end (s b) (at b + 1) (omega (arith, e))))))
+    e)

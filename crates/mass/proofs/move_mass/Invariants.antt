@@ -1,5 +1,5 @@
 use mathlib.Core.Path.{◌≡◌}
-use Prim.Native.Nat.{◌+◌, ◌-◌, ◌<◌}
+use Prim.Native.Nat.{◌+◌}
 use Rattle.numbers.proofs.IndexLaws.{Written}
 use Rattle.reach.specs.Ranges.{undrawn}
 use Rattle.mass.specs.Transport.{mass_columns, right_share, rightwards, moved_cell}
@@ -8,7 +8,4 @@ use Rattle.mass.proofs.move_mass.Given as goal
 
 abbrev pub invariant-loop-i : goal.invariant-loop-i
 invariant-loop-i l = let s = mass_columns l.initial.mass l.base l.carried undrawn l.left_in l.right_in in
-    (l.i < l.n) × Written 0 (moved_cell s) l.initial.mass l.i l.mass × (l.held ≡ stayed s l.i + rightwards s l.i) × (l.right ≡ right_share s l.i)
-
-abbrev pub decreases-loop-i : goal.decreases-loop-i
-decreases-loop-i l = l.n - l.i
+    Written 0 (moved_cell s) l.initial.mass l.i l.mass × (l.held ≡ stayed s l.i + rightwards s l.i) × (l.right ≡ right_share s l.i)

@@ -40,11 +40,7 @@ shares_of-requires c =
     record { deep = g.deep; rich = g.rich; covered = omega (arith, right_is (goal.at.shares_of-requires c).After-left_part, left_is (goal.at.shares_of-requires c).After-left_part, e, sum_empty, g.covered) }
 
 pub returns-clause-left_value : goal.returns-clause-left_value
-returns-clause-left_value c =
-    let x = col (goal.at.returns-clause-left_value c).Start in
-    let i = c.args.i in
-    let e = outflow_is (get_or x.carried i (pos 0)) (get_or x.carried (i + 1) (pos 0)) [] in
-    shares-are (goal.at.returns-clause-left_value c).After-shares_of
+returns-clause-left_value c = shares-are (goal.at.returns-clause-left_value c).After-shares_of
 
 pub returns-clause-rest_value : goal.returns-clause-rest_value
 returns-clause-rest_value c =

@@ -1,7 +1,5 @@
 -- `program::answer` meets its contract. Assumes nothing.
-use mathlib.Core.Path.{◌≡◌, refl, sym, ap, ◌∙◌}
 use native.Mathlib.Omega.{arith}
-use lib.ListN.{length}
 use Rattle.program.proofs.ProgramLaws.{refused_text_lem, report_text_lem}
 use Rattle.program.proofs.answer.Goals as goal
 

@@ -1,8 +1,5 @@
 -- `sweeping::momentum_after` meets its contract. Assumes nothing.
 use mathlib.Core.Path.{sym}
-use native.Mathlib.Omega.{arith}
-use mir.Facts.{to_z-of_z}
-use borrow.Author.Rules.{rules, sfits_of}
 use Rattle.water.proofs.WaterLaws.{nearest_dry}
 use Rattle.sweeping.proofs.momentum_after.Goals as goal
 

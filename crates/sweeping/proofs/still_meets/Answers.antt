@@ -1,14 +1,12 @@
 -- `sweeping::still_meets` meets its contract. Assumes nothing.
-use mathlib.Core.Path.{refl, ap, ap₂}
+use mathlib.Core.Path.{ap, ap₂}
 use Prim.Native.Nat.{ℕ, ◌+◌, ◌*◌, ◌≤◌}
 use native.Mathlib.Nat.{mul-le-mul}
 use native.Mathlib.Omega.{arith}
 use lib.Dec.{leb}
-use borrow.Author.Tests.{not-true, not-false}
 use Rattle.flux.proofs.WaveLaws.{wave_speed_most}
 use Rattle.water.specs.Sides.{side_speed}
 use Rattle.water.specs.Ranges.{side_meets}
-use borrow.Author.Rules.{rules}
 use Rattle.sweeping.proofs.still_meets.Goals as goal
 use Rattle.sweeping.proofs.still_meets.Goals.{After-struct_known-1}
 
@@ -23,8 +21,8 @@ overflow_add-result c = omega (arith, small (goal.at.overflow_add-result c).Afte
 pub overflow_mul-result : goal.overflow_mul-result
 overflow_mul-result c = omega (arith, mul-le-mul c.requires.0.time (small (goal.at.overflow_mul-result c).After-struct_known-1))
 
-pub returns : goal.returns
+pub returns-then-met : goal.returns-then-met
 unfolding side_meets side_speed
-returns c =
-    rw c.if-not-met.false
+returns-then-met c =
+    rw c.if-met.true
     (ap (λ (v : ℕ). leb (c.args.t * v) (1_000 * c.args.x)) (ap₂ ◌+◌ c.speed_of.ensures.0 c.requires.1.wave))

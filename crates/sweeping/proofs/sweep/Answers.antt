@@ -2,7 +2,7 @@
 -- the definitions say. Assumes nothing.
 use mathlib.Core.Path.{◌≡◌, sym, ap, ap₂, ◌∙◌}
 use mathlib.Core.Bool.{Bool, true, ◌&&◌, and-true, false≢true}
-use Prim.Native.Nat.{ℕ, ◌+◌, ◌-◌, ◌≤◌, ◌<◌, min}
+use Prim.Native.Nat.{ℕ, ◌+◌, ◌<◌, min}
 use native.Mathlib.Numerals.{add-one}
 use native.Mathlib.Omega.{arith}
 use lib.Dec.{eqb}
@@ -11,11 +11,11 @@ use lib.ListN.{length, get_or, length-set}
 use mir.Facts.{to_z-of_z}
 use mir.Syntax.{w64}
 use mir.Val.{to_z, of_z}
-use borrow.Author.Rules.{rules, sfits_of}
+use borrow.Author.Rules.{sfits_of}
 use borrow.Author.Tests.{eqb-true}
 use Rattle.numbers.specs.Index.{all_below}
 use Rattle.numbers.specs.Signed.{positive}
-use Rattle.numbers.proofs.IndexLaws.{and_left, and_right, Written, written_none, written_first, written_more}
+use Rattle.numbers.proofs.IndexLaws.{and_left, and_right, written_none, written_first, written_more}
 use Rattle.flux.specs.Interface.{Side}
 use Rattle.reach.specs.Reach.{Reach, cells}
 use Rattle.reach.specs.declared.boundary.BoundaryPlace.TheVariants.{Left}
@@ -24,6 +24,7 @@ use Rattle.water.specs.Sides.{cell_side, boundary_side, left_side, right_side}
 use Rattle.water.specs.Water.{net_at}
 use Rattle.water.specs.Ranges.{side_of, SideStateFits, ExchangeOf, ExchangeFits, flow_of, side_meets, sides_meet, granted, granted_depth, granted_discharge}
 use Rattle.water.proofs.WaterLaws.{boundary_bed, right_side_cell, exchange_at, left_side_next, right_side_next, dry_same, dry_meets, dry_net, dry_granted, dry_depth, dry_discharge, net_by_crossing, grant_by_crossings, depth_by_crossings, discharge_by_crossings, meets_more}
+use Rattle.reach.specs.declared.refusal.Refusal.TheVariants as refusal
 use Rattle.sweeping.proofs.sweep.Goals as goal
 use Rattle.sweeping.proofs.sweep.Goals.{After-boundary_state-beyond, After-cell_state-cell, After-exchange_between-right, After-net_of, After-right_side-next, After-stays_dry, In-loop-i, Start}
 
@@ -193,7 +194,7 @@ unfolding sides_meet
 returns-clause-value c =
     let w = c.loop-i.invariant in
     let s = flow (goal.at.returns-clause-value c).Start in
-    let e : c.loop-i.i ≡ cells s = omega (arith, c.loop-i-test.false, w.0) in c.check_cfl.ensures ∙ ap (pass_or 11) (rw (e, add-one (cells s)) at w.8)
+    let e : c.loop-i.i ≡ cells s = omega (arith, c.loop-i-test.false, w.0) in c.unless.ensures ∙ ap (pass_or refusal.Cfl) (rw (e, add-one (cells s)) at w.8)
 
 pub returns-clause-swept : goal.returns-clause-swept
 unfolding sides_meet

@@ -7,7 +7,6 @@ use Rattle.water.specs.Ranges.{side_of, SideStateFits}
 use Rattle.water.specs.Sides.{side_speed}
 use Rattle.water.specs.declared.SideState.{SideState}
 use Rattle.timestep.proofs.GreatestLaws.{speed_fed, speed_other}
-use borrow.Author.Rules.{rules}
 use Rattle.timestep.proofs.boundary_speed.Goals as goal
 use Rattle.timestep.proofs.boundary_speed.Goals.{After-struct_known-3-1}
 

@@ -14,11 +14,14 @@ use Rattle.reach.specs.Grounds.{all_totals_fit}
 use Rattle.reach.specs.declared.boundary.Boundary.{Boundary}
 use Rattle.reach.specs.declared.held.Held.{Held}
 use Rattle.reach.specs.declared.ledger.Ledger.{Ledger}
-use Rattle.reach.proofs.GroundsLaws.{passed, refused_by}
+use Rattle.reach.proofs.GroundsLaws.{passed, refused_by, refusal_of}
 use Rattle.reach.proofs.Sound.{Sound, sound, outlets_few, ledger_fits_lem}
 use Rattle.transport.specs.Calls.{mass_columns_of, transport_ledger, transport_outlets, transport_held, after_transport, holding, set_boundaries, CameTo}
 use Rattle.transport.specs.Ranges.{BoundaryMassOf, answer}
 use Rattle.transport.proofs.CallsLaws.{ready_with, crossed_with, ready_entering, moved_none, gained_entering, taken_entering, outlets_ready, outlets_are, shares_moved, small, ledger_is, full, accepted}
+use Rattle.reach.specs.Refusals.{number}
+use Rattle.reach.specs.declared.refusal.Refusal.{Refusal}
+use Rattle.reach.specs.declared.refusal.Refusal.TheVariants as refusal
 use Rattle.transport.proofs.transport_under.Goals as goal
 use Rattle.transport.proofs.transport_under.Goals.{After-boundary_mass_of-crossed, After-commit, After-move_outlets-moved, Start}
 
@@ -62,7 +65,7 @@ shared : (c : After-move_outlets-moved) (k : ℕ) →
 shared c k l = ap (λ (os : Outlets). (outlet_at os k).mass) (next-outlets c) ∙ shares_moved (reach (goal.at.After-move_outlets-moved c).Start) (checked (goal.at.After-move_outlets-moved c).Start) k l
 
 fits : (c : After-commit) → all_totals_fit (transport_held (reach (goal.at.After-commit c).Start)) ≡ true
-fits c = sym (room_is (goal.at.After-commit c).After-move_outlets-moved) ∙ passed 13 _ _ c.check_room.ensures c.in-Pass.is
+fits c = sym (room_is (goal.at.After-commit c).After-move_outlets-moved) ∙ passed refusal.Total _ _ c.check_room.ensures c.in_default.is
 
 came : (c : After-commit) (mass : List ℕ) →
     let a = c.args in
@@ -92,9 +95,11 @@ unfolding transport_outlets moved_outlets
 check_room-requires c =
     rw (next-outlets (goal.at.check_room-requires c).After-move_outlets-moved, each_count (moved_outlet (mass_columns_of (reach (goal.at.check_room-requires c).Start)) c.args.held.outlets) c.args.held.outlets) (outlets_few _ _ (checked (goal.at.check_room-requires c).Start).outlets)
 
-pub returns-in_default : goal.returns-in_default
-returns-in_default c =
-    rw (full (reach (goal.at.returns-in_default c).Start) c.args.given c.requires (sym (room_is (goal.at.returns-in_default c).After-move_outlets-moved) ∙ refused_by 13 _ _ _ c.check_room.ensures c.in_default.is))
+pub returns-in-Err : goal.returns-in-Err
+returns-in-Err c =
+    let t = refused_by refusal.Total _ _ _ c.check_room.ensures c.in-Err.is in
+    let a = c.refused.ensures ∙ ap (λ (r : Refusal). answer (number r) c.args.held) (refusal_of refusal.Total _ _ _ c.check_room.ensures c.in-Err.is) in
+    rw (full (reach (goal.at.returns-in-Err c).Start) c.args.given c.requires (sym (room_is (goal.at.returns-in-Err c).After-move_outlets-moved) ∙ t), a)
     (record { refusal_is = refl; held_is = refl; mass_is = refl; base_is = refl; carried_is = refl })
 
 pub returns-then-outlets-eq0 : goal.returns-then-outlets-eq0

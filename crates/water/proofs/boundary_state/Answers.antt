@@ -1,15 +1,12 @@
 -- `water::boundary_state` meets its contract. Assumes nothing.
 use mathlib.Core.Path.{◌≡◌, refl, sym, ◌∙◌}
-use Prim.Native.Nat.{ℕ}
 use native.Mathlib.Omega.{arith}
-use lib.IntN.{ℤ, neg_ℤ, sub_ℕ}
 use mir.Facts.{to_z-of_z}
 use Rattle.numbers.proofs.SignedLaws.{abs_sub, sub_neg}
-use Rattle.flux.specs.Interface.{Side, mirrored}
+use Rattle.flux.specs.Interface.{mirrored}
 use Rattle.water.specs.Ranges.{side_of, SideStateFits}
 use Rattle.water.specs.declared.SideState.{SideState}
 use Rattle.water.proofs.WaterLaws.{boundary_wall, boundary_open, boundary_fed}
-use borrow.Author.Rules.{rules}
 use Rattle.water.proofs.boundary_state.Goals as goal
 
 -- the mirror image of a cell
@@ -34,13 +31,13 @@ turned_side c = rw (sub_neg c.right c.left) refl
 pub returns-then-e-eq-WALL : goal.returns-then-e-eq-WALL
 returns-then-e-eq-WALL c =
     rw (to_z-of_z (record { sfits = c.struct_told-1.given.0.1 })) (
-      turned_fits c.args.c c.requires.side_state_fits.0,
+      turned_fits c.args.c c.requires.0,
       turned_side c.args.c ∙ sym (boundary_wall c.args.p c.args.e (side_of c.args.c) c.if-e-eq-WALL.true),
     )
 
 pub returns-then-e-eq-OPEN : goal.returns-then-e-eq-OPEN
 returns-then-e-eq-OPEN c =
-    (c.requires.side_state_fits.0, sym (boundary_open c.args.p c.args.e (side_of c.args.c) c.if-e-eq-WALL.false c.if-e-eq-OPEN.true))
+    (c.requires.0, sym (boundary_open c.args.p c.args.e (side_of c.args.c) c.if-e-eq-WALL.false c.if-e-eq-OPEN.true))
 
 pub returns : goal.returns
 returns c =

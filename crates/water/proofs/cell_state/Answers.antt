@@ -10,7 +10,6 @@ use Rattle.numbers.proofs.SignedLaws.{abs_parts, abs_sub, one_part, two_parts}
 use Rattle.flux.specs.Velocity.{velocity}
 use Rattle.flux.specs.Interface.{Side}
 use Rattle.flux.proofs.VelocityLaws.{velocity_most_lem}
-use borrow.Author.Rules.{rules}
 use Rattle.water.proofs.cell_state.Goals as goal
 
 side_at : (z : ℤ) (h : ℕ) {u v : ℤ} → u ≡ v → ◌≡◌ {A = Side} (record { bed = z; depth = h; velocity = u }) (record { bed = z; depth = h; velocity = v })
@@ -23,12 +22,12 @@ pub returns : goal.returns
 returns c =
     let u = velocity c.args.h c.args.q in
     let v = rw (to_z-of_z c.ranges.q) at c.velocity_parts-u.ensures in
-    let m = velocity_most_lem 8_000 c.args.h c.args.q c.requires.z_bound.1.1 in
+    let m = velocity_most_lem 8_000 c.args.h c.args.q c.requires.1.1 in
     let a = abs_parts u in
     rw (to_z-of_z c.ranges.z) (
       record {
-        bed = c.requires.z_bound.0;
-        depth = c.requires.z_bound.1.0;
+        bed = c.requires.0;
+        depth = c.requires.1.0;
         wave = c.wave_speed.ensures;
         right_most = omega arith;
         left_most = omega arith;

@@ -1,20 +1,18 @@
 -- `water::exchange_between` meets its contract. Assumes nothing.
-use mathlib.Core.Path.{◌≡◌, refl, sym, ap, ap₂, ◌∙◌}
+use mathlib.Core.Path.{◌≡◌, sym, ap, ap₂, ◌∙◌}
 use Prim.Native.Nat.{ℕ, ◌+◌, ◌-◌, ◌≤◌}
 use native.Mathlib.Omega.{arith}
 use native.Mathlib.Nat.{le_trans}
-use lib.IntN.{ℤ, neg_ℤ, sub_ℕ}
+use lib.IntN.{ℤ, sub_ℕ}
 use mir.Facts.{to_z-of_z}
 use Rattle.numbers.proofs.SignedLaws.{sub_neg}
 use Rattle.flux.specs.Crossing.{water_flux, momentum_flux, still_thrust}
 use Rattle.flux.specs.Interface.{reduced_depth, left_depth, right_depth, momentum_sum}
 use Rattle.flux.specs.Ranges.{Flow}
-use Rattle.flux.specs.Wave.{wave_speed}
 use Rattle.flux.proofs.CrossingLaws.{momentum_flux_small}
 use Rattle.flux.proofs.InterfaceLaws.{reduced_depth_le}
 use Rattle.water.specs.Ranges.{side_of, ExchangeOf}
 use Rattle.water.proofs.WaterLaws.{crossing_fits, dry_exchange}
-use borrow.Author.Rules.{rules}
 use Rattle.water.proofs.exchange_between.Goals as goal
 use Rattle.water.proofs.exchange_between.Goals.{After-reduced_depth-hl, After-reduced_depth-hr, After-reduced_wave-ar}
 
@@ -57,15 +55,18 @@ right-flow c =
 pub returns-then-l-r-eq0 : goal.returns-then-l-r-eq0
 returns-then-l-r-eq0 c =
     let e = c.if-l-r-eq0.true in
-    let none = dry_exchange c.args.t c.args.x (side_of c.args.l) (side_of c.args.r) (omega (arith, e)) (omega (arith, e)) in
+    let d = c.default.ensures in
+    let r = c.default.result in
+    let none : ExchangeOf c.args.t c.args.x (side_of c.args.l) (side_of c.args.r) r.rightward r.leftward r.momentum r.lost_left r.lost_right =
+    rw (d.0, d.1.0, d.1.1.0, d.1.1.1.0, d.1.1.1.1) (dry_exchange c.args.t c.args.x (side_of c.args.l) (side_of c.args.r) (omega (arith, e)) (omega (arith, e))) in
     (none, crossing_fits _ c.requires.mesh.0 c.requires.mesh.1.0 c.requires.mesh.1.1 none)
 
 pub fluxes_of-a-requires : goal.fluxes_of-a-requires
-fluxes_of-a-requires c = let p = c.requires in (p.mesh.0, (p.span_of.0, left-flow (goal.at.fluxes_of-a-requires c).After-reduced_wave-ar))
+fluxes_of-a-requires c = let p = c.requires in (p.mesh.0, (p.span_of, left-flow (goal.at.fluxes_of-a-requires c).After-reduced_wave-ar))
 
 pub fluxes_of-b-requires : goal.fluxes_of-b-requires
 fluxes_of-b-requires c =
-    let p = c.requires in (p.mesh.0, (p.span_of.0, right-flow (goal.at.fluxes_of-b-requires c).After-reduced_wave-ar))
+    let p = c.requires in (p.mesh.0, (p.span_of, right-flow (goal.at.fluxes_of-b-requires c).After-reduced_wave-ar))
 
 pub overflow_add-result : goal.overflow_add-result
 overflow_add-result c =
@@ -94,13 +95,13 @@ returns c =
     } in
     (crosses, crossing_fits _ g.0 g.1.0 g.1.1 crosses)
 
-pub reduced_wave-al-requires-clause-reduced_le_depth_most : goal.reduced_wave-al-requires-clause-reduced_le_depth_most
-reduced_wave-al-requires-clause-reduced_le_depth_most c =
-    (left-deep (goal.at.reduced_wave-al-requires-clause-reduced_le_depth_most c).After-reduced_depth-hl, c.requires.mesh.1.0.wave)
+pub reduced_wave-al-requires : goal.reduced_wave-al-requires
+reduced_wave-al-requires c =
+    (left-deep (goal.at.reduced_wave-al-requires c).After-reduced_depth-hl, c.requires.mesh.1.0.wave)
 
-pub reduced_wave-ar-requires-clause-reduced_le_depth_most : goal.reduced_wave-ar-requires-clause-reduced_le_depth_most
-reduced_wave-ar-requires-clause-reduced_le_depth_most c =
-    (right-deep (goal.at.reduced_wave-ar-requires-clause-reduced_le_depth_most c).After-reduced_depth-hr, c.requires.mesh.1.1.wave)
+pub reduced_wave-ar-requires : goal.reduced_wave-ar-requires
+reduced_wave-ar-requires c =
+    (right-deep (goal.at.reduced_wave-ar-requires c).After-reduced_depth-hr, c.requires.mesh.1.1.wave)
 
 pub thrust_lost-requires-clause-flow : goal.thrust_lost-requires-clause-flow
 thrust_lost-requires-clause-flow c =

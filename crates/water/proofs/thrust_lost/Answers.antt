@@ -1,10 +1,6 @@
 -- `water::thrust_lost` meets its contract. Assumes nothing.
-use mathlib.Core.Path.{ap}
-use Prim.Native.Nat.{ℕ}
 use native.Mathlib.Omega.{arith}
-use Rattle.flux.specs.Crossing.{still_thrust}
 use Rattle.flux.proofs.CrossingLaws.{still_thrust_mono}
-use borrow.Author.Rules.{rules}
 use Rattle.water.proofs.thrust_lost.Goals as goal
 
 pub overflow_sub-result : goal.overflow_sub-result

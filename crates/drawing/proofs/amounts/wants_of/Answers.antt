@@ -1,11 +1,10 @@
 -- `drawing::amounts::wants_of` meets its contract. Assumes nothing.
-use mathlib.Core.Path.{◌≡◌}
-use native.Mathlib.Omega.{arith}
-use Rattle.numbers.proofs.IndexLaws.{written_all}
+use Rattle.std.proofs.Common.{◌≡◌, ℕ, length, rules}
+use Rattle.numbers.proofs.IndexLaws.{by_index}
+use Rattle.outlet.specs.Outlets.{outlet_at}
 use Rattle.drawing.proofs.amounts.wants_of.Goals as goal
 
 pub returns : goal.returns
 returns c =
-    let l = c.loop-k in
-    let full : l.k ≡ 32 = omega arith in
-    written_all 0 _ _ l.k l.r l.invariant.1 full
+    let full : length c.amounts_of.result ≡ 32 = search rules in
+    by_index 32 (λ (k : ℕ). (outlet_at c.args.outlets k).want) 0 c.amounts_of.result full (λ k l. let e = c.amounts_of.ensures k l in search rules)

@@ -18,7 +18,7 @@ units c =
     let a = c.args in
     c.floors_of-floors.ensures.left_after
     ∙ ap (λ (n : ℕ). tabulate n (λ i. units_left (get_or a.granted.now i 0) (from_cell (λ o. o.want) a.outlets i)))
-    (ap length c.copy_column.ensures ∙ c.requires.granted.long)
+    (ap length c.copy_from_slice.ensures.after ∙ c.requires.granted.long)
 
 pub returns : goal.returns
 returns c =

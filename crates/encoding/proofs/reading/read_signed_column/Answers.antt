@@ -1,12 +1,8 @@
 -- `encoding::reading::read_signed_column` meets its contract. Assumes nothing.
-use native.Mathlib.Omega.{arith}
-use lib.IntN.{pos}
-use Rattle.numbers.proofs.IndexLaws.{written_all}
-use Rattle.encoding.specs.FromBytes.{column_at}
+use Rattle.std.proofs.Common.{of_calls}
+use Rattle.encoding.specs.FromBytes.{twos}
 use Rattle.encoding.proofs.reading.read_signed_column.Goals as goal
 
 pub returns : goal.returns
-unfolding column_at
-returns c =
-    let l = c.loop-i in
-    written_all (pos 0) _ _ l.i l.to l.invariant.1 (omega (arith, c.loop-i-test.false, l.invariant.0))
+unfolding twos
+returns c = c.read_each.ensures (twos c.args.w) (λ v r p q. rw (← c.requires.half_bound.1) (search of_calls))

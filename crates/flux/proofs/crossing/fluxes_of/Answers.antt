@@ -19,9 +19,10 @@ spectrum c =
 pub returns-then-h-eq0 : goal.returns-then-h-eq0
 returns-then-h-eq0 c =
     let s = c.args in
+    let none = c.default.ensures in
     let u = sub_ℕ s.right s.left in (
-      sym (ap (λ (h : ℕ). water_flux s.t s.x h u) c.if-h-eq0.true ∙ water_flux_dry s.t s.x u),
-      sym (ap (λ (h : ℕ). momentum_flux s.t s.x h u) c.if-h-eq0.true ∙ momentum_flux_dry s.t s.x u),
+      none.0 ∙ sym (ap (λ (h : ℕ). water_flux s.t s.x h u) c.if-h-eq0.true ∙ water_flux_dry s.t s.x u),
+      none.1 ∙ sym (ap (λ (h : ℕ). momentum_flux s.t s.x h u) c.if-h-eq0.true ∙ momentum_flux_dry s.t s.x u),
     )
 
 pub rightgoing_of-s-requires : goal.rightgoing_of-s-requires

@@ -24,7 +24,7 @@ pub returns : goal.returns
 returns c =
     omega (
       arith,
-      c.excess.ensures,
+      c.saturating_sub.ensures,
       rw (diff_is (goal.at.returns c).Start, to_z-of_z (diff-fits (goal.at.returns c).Start)) at c.right_part.ensures,
       reduced_depth_is c.args.h c.args.z c.args.beside,
     )

@@ -8,7 +8,7 @@ use Rattle.flux.proofs.velocity.flow_speed.Goals as goal
 
 pub returns : goal.returns
 returns c =
-    let size = rw (to_z-of_z c.ranges.q) at c.magnitude.ensures in
+    let size = rw (to_z-of_z c.ranges.q) at c.unsigned_abs.ensures.value in
     omega (arith, ap (λ (n : ℕ). n / c.args.h) size, velocity_size c.args.h c.args.q)
 
 pub returns-then-h-eq0 : goal.returns-then-h-eq0

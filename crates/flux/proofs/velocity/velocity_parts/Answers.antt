@@ -5,7 +5,9 @@ use Rattle.flux.proofs.VelocityLaws.{dry_parts, leftward_parts, rightward_parts}
 use Rattle.flux.proofs.velocity.velocity_parts.Goals as goal
 
 pub returns-then-h-eq0 : goal.returns-then-h-eq0
-returns-then-h-eq0 c = dry_parts _ _ c.if-h-eq0.true
+returns-then-h-eq0 c =
+    let none = c.default.ensures in
+    let dry = dry_parts c.args.h c.args.q c.if-h-eq0.true in (none.0 ∙ dry.0, none.1 ∙ dry.1)
 
 pub returns-then-right-eq0 : goal.returns-then-right-eq0
 returns-then-right-eq0 c =

@@ -9,4 +9,4 @@ pub returns : goal.returns
 returns c =
     let l = c.loop-i in
     let a = c.args in
-    written_all (pos 0) (λ k. get_or a.to.now k (pos 0) +ℤ get_or a.by.now k (pos 0)) a.to.now l.i l.to l.invariant.1 (omega arith)
+    written_all (pos 0) (λ k. get_or a.to.now k (pos 0) +ℤ get_or a.by.now k (pos 0)) a.to.now l.i l.to l.invariant (omega arith)

@@ -1,26 +1,24 @@
 -- `outlet::clearing::clear` meets its contract. The loop: the outlets passed are cleared, the rest stand as they came. Assumes nothing.
-use mathlib.Core.Path.{◌≡◌, refl, ap, ◌∙◌}
-use mathlib.Core.List.{List}
-use Prim.Native.Nat.{ℕ}
-use native.Mathlib.Omega.{arith}
-use lib.ListN.{length}
-use Rattle.numbers.proofs.IndexLaws.{written_below}
-use Rattle.outlet.specs.Outlets.{no_outlet, cleared, each_outlet}
-use Rattle.outlet.specs.declared.Outlet.{Outlet}
-use Rattle.outlet.specs.declared.Outlets.{Outlets}
+use Rattle.std.proofs.Common.{◌≡◌, ◌∙◌, ◌<◌, ap, length, take, arith, rules}
+use Rattle.numbers.proofs.IndexLaws.{written_more}
+use Rattle.outlet.specs.Outlets.{no_outlet, cleared, cleared_outlet}
+use Rattle.outlet.proofs.OutletLaws.{counted, at_hand, each_written}
 use Rattle.outlet.proofs.clearing.clear.Goals as goal
 use Rattle.outlet.proofs.clearing.clear.Goals.{Start}
 
-abbrev put : ℕ → List Outlet → Outlets
-put n l = record { count = n; list = l }
-
 -- the list is an array of 32
-list-long : (s : Start) → length s.args.outlets.list ≡ 32
-list-long s = s.well_formed.0.1.1.1.0.1.0.1
+full : (s : Start) → length s.args.outlets.list ≡ 32
+full s = search rules
+
+pub loop-o-preserved : goal.loop-o-preserved
+loop-o-preserved c =
+    let os = c.args.outlets in
+    let i = c.loop-o.o-index in
+    let w = c.loop-o.invariant in
+    let l : i < length (take os.count os.list) = omega (arith, c.loop-o-test.true, w.long) in
+    let passes : i < os.count = omega (arith, l, counted os (full (goal.at.loop-o-preserved c).Start) c.requires) in
+    written_more no_outlet _ _ i c.loop-o.o-items _ w l (ap cleared_outlet (w.same i (omega arith) ∙ at_hand os i passes))
 
 pub returns : goal.returns
-unfolding cleared each_outlet
-returns c =
-    let l = c.loop-k in
-    let all : l.k ≡ c.args.outlets.count = omega arith in
-    ap (put _) (written_below no_outlet _ _ l.k l.list l.invariant.1 ∙ rw (list-long (goal.at.returns c).Start, all) refl)
+unfolding cleared
+returns c = each_written _ c.args.outlets _ _ (full (goal.at.returns c).Start) c.requires c.loop-o-test.false c.loop-o.invariant

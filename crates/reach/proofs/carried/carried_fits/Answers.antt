@@ -7,7 +7,6 @@ use lib.IntN.{ℤ, pos, ◌+ℤ◌, ◌-ℤ◌, neg_ℤ, nat_abs}
 use mir.Syntax.{w64}
 use mir.Val.{SFits, to_z, of_z}
 use mir.Facts.{to_z-of_z, to_z_pos}
-use borrow.Author.Rules.{rules}
 use Rattle.numbers.proofs.SignedLaws.{R, L, abs_parts, abs_add, abs_neg, one_part, add_cross, minus_cross, pos_cross, lt_z_true, lt_z_false}
 use Rattle.reach.proofs.CarriedLaws.{crossed_test, small_fits, same_word, uncovered, covered}
 use Rattle.reach.proofs.carried.carried_fits.Goals as goal

@@ -6,14 +6,14 @@ use native.Mathlib.Omega.{arith}
 use lib.ListN.{length}
 use Rattle.numbers.specs.Index.{tabulate}
 use Rattle.numbers.proofs.IndexLaws.{zeros, length_tabulate, on, off}
-use Rattle.reach.specs.Grounds.{carried_fit}
+use Rattle.reach.specs.Grounds.{pass_or, carried_fit}
 use Rattle.reach.specs.Parts.{drawn_from}
 use Rattle.reach.specs.Ranges.{alone, cut_drawn}
 use Rattle.reach.proofs.Sound.{outlets_few, outlet_sound}
-use Rattle.reach.proofs.GroundsLaws.{passes, refuses, passed, refused_by}
+use Rattle.reach.proofs.GroundsLaws.{passed, refused_by}
 use Rattle.reach.proofs.OutletLaws.{cut_most, at_cell, same_ground}
 use borrow.Author.Rules.{rules}
-use borrow.Author.Tests.{not-true, not-false}
+use Rattle.reach.specs.declared.refusal.Refusal.TheVariants as refusal
 use Rattle.reach.proofs.carried.check_carried.Goals as goal
 use Rattle.reach.proofs.carried.check_carried.Goals.{After-drawn_by_cell}
 
@@ -39,20 +39,17 @@ check_carried_cells-requires c =
       drawn_most = λ i l. rw (at_cell c.args.outlets _ d i (omega (arith, l, k.few))) (cut_most c.args.outlets (outlets_few _ _ c.requires.outlets_value) i);
     }
 
-pub returns-in_default : goal.returns-in_default
+pub returns-in_err-check_carried_cells : goal.returns-in_err-check_carried_cells
 unfolding carried_fit
-returns-in_default c =
-    refuses 8 (sym (ground-is (goal.at.returns-in_default c).After-drawn_by_cell) ∙ off _ _ (refused_by 8 _ _ _ c.check_carried_cells.ensures c.in_default.is))
-
-pub returns-then-not-walls_fit : goal.returns-then-not-walls_fit
-unfolding carried_fit
-returns-then-not-walls_fit c =
-    refuses 8 (sym (ground-is (goal.at.returns-then-not-walls_fit c).After-drawn_by_cell) ∙ on _ _ (passed 8 _ _ c.check_carried_cells.ensures c.in-Pass.is) (sym c.walls_fit.ensures ∙ c.if-not-walls_fit.true))
+returns-in_err-check_carried_cells c =
+    let e = sym (ground-is (goal.at.returns-in_err-check_carried_cells c).After-drawn_by_cell) ∙ off _ _ (refused_by refusal.Carried _ _ _ c.check_carried_cells.ensures c.in_err-check_carried_cells.was) in
+    rw e (search rules)
 
 pub returns : goal.returns
 unfolding carried_fit
 returns c =
-    passes 8 (sym (ground-is (goal.at.returns c).After-drawn_by_cell) ∙ on _ _ (passed 8 _ _ c.check_carried_cells.ensures c.in-Pass.is) (sym c.walls_fit.ensures ∙ c.if-not-walls_fit.false))
+    let e = sym (ground-is (goal.at.returns c).After-drawn_by_cell) ∙ on _ _ (passed refusal.Carried _ _ c.check_carried_cells.ensures c.in_ok-check_carried_cells.was) (sym c.walls_fit.ensures) in
+    c.unless.ensures ∙ ap (pass_or refusal.Carried) (sym e)
 
 pub drawn_by_cell-requires-clause-count_le_outlets_most : goal.drawn_by_cell-requires-clause-count_le_outlets_most
 drawn_by_cell-requires-clause-count_le_outlets_most c =

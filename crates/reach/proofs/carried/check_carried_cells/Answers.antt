@@ -1,8 +1,7 @@
 -- `reach::carried::check_carried_cells` meets its contract. The loop: the cells passed keep the rules, and what the last of them has at its right is in
 -- range. Assumes nothing.
 use mathlib.Core.Path.{◌≡◌, sym, ◌∙◌}
-use mathlib.Core.Bool.{true}
-use Prim.Native.Nat.{◌+◌, ◌-◌, ◌≤◌, ◌<◌}
+use Prim.Native.Nat.{◌+◌}
 use native.Mathlib.Omega.{arith}
 use lib.IntN.{pos, nat_abs}
 use lib.Dec.{leb}
@@ -10,12 +9,12 @@ use lib.ListN.{length, get_or}
 use mir.Syntax.{w64}
 use mir.Facts.{to_z-of_z}
 use borrow.Author.Rules.{rules, sfits_of}
-use borrow.Author.Tests.{not-true, not-false, leb-true}
-use Rattle.numbers.specs.Index.{all_below}
+use borrow.Author.Tests.{leb-true}
 use Rattle.numbers.proofs.IndexLaws.{all_none, all_more, all_fails, off}
 use Rattle.reach.specs.Grounds.{carried_fits, carried_cells_fit}
 use Rattle.reach.specs.Ranges.{alone}
 use Rattle.reach.specs.Limits.{carried_most}
+use Rattle.reach.specs.declared.refusal.Refusal.TheVariants as refusal
 use Rattle.reach.proofs.GroundsLaws.{passes, refuses}
 use Rattle.reach.proofs.Sound.{carried_sound}
 use Rattle.reach.proofs.CarriedLaws.{carried_fits_at}
@@ -35,27 +34,27 @@ cell-is c =
     rw (left, right) at c.carried_fits.ensures
 
 pub loop-i-init : goal.loop-i-init
-loop-i-init c = (search rules, all_none _, leb-true _ _ (sym (first_fits (goal.at.loop-i-init c).After-within) ∙ c.if-not-within.false))
+loop-i-init c = (all_none _, leb-true _ _ (sym (first_fits (goal.at.loop-i-init c).After-within) ∙ c.if-not-within.false))
 
 pub returns-then-not-within : goal.returns-then-not-within
 unfolding carried_cells_fit carried_fits
 returns-then-not-within c =
-    refuses 8 (all_fails _ _ 0 c.requires.columns.some (off _ _ (sym (first_fits (goal.at.returns-then-not-within c).After-within) ∙ c.if-not-within.true)))
+    refuses refusal.Carried (all_fails _ _ 0 c.requires.columns.some (off _ _ (sym (first_fits (goal.at.returns-then-not-within c).After-within) ∙ c.if-not-within.true)))
 
 pub returns-then-not-carried_fits : goal.returns-then-not-carried_fits
 unfolding carried_cells_fit
 returns-then-not-carried_fits c =
-    refuses 8 (all_fails _ _ c.loop-i.i (search rules)
+    refuses refusal.Carried (all_fails _ _ c.loop-i.i (search rules)
     (sym (cell-is (goal.at.returns-then-not-carried_fits c).After-carried_fits) ∙ c.if-not-carried_fits.true))
 
 pub loop-i-preserved : goal.loop-i-preserved
 loop-i-preserved c =
     let l = c.loop-i in
     let e = sym (cell-is (goal.at.loop-i-preserved c).After-carried_fits) ∙ c.if-not-carried_fits.false in
-    (search rules, all_more _ l.i l.invariant.1 e, (carried_sound _ _ _ _ _ e).right)
+    (all_more _ l.i l.invariant.0 e, (carried_sound _ _ _ _ _ e).right)
 
 pub returns : goal.returns
 unfolding carried_cells_fit
 returns c =
     let e : c.loop-i.i ≡ length c.args.depth.now = omega arith in
-    passes 8 (rw e at c.loop-i.invariant.1)
+    passes refusal.Carried (rw e at c.loop-i.invariant.0)

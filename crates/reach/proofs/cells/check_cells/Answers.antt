@@ -1,17 +1,14 @@
 -- `reach::cells::check_cells` meets its contract. The loop: the cells passed fit. Assumes nothing.
 use mathlib.Core.Path.{◌≡◌, sym, ◌∙◌}
-use mathlib.Core.Bool.{true}
-use Prim.Native.Nat.{◌-◌, ◌≤◌}
 use native.Mathlib.Omega.{arith}
 use lib.IntN.{pos}
 use lib.ListN.{length, get_or}
 use mir.Syntax.{w64}
 use mir.Facts.{to_z-of_z}
 use borrow.Author.Rules.{rules, sfits_of}
-use borrow.Author.Tests.{not-true, not-false}
-use Rattle.numbers.specs.Index.{all_below}
 use Rattle.numbers.proofs.IndexLaws.{all_none, all_more, all_fails}
 use Rattle.reach.specs.Grounds.{cells_fit}
+use Rattle.reach.specs.declared.refusal.Refusal.TheVariants as refusal
 use Rattle.reach.proofs.GroundsLaws.{passes, refuses}
 use Rattle.reach.proofs.Sound.{cell_fits_at}
 use Rattle.reach.proofs.cells.check_cells.Goals as goal
@@ -27,21 +24,21 @@ cell-is c =
     rw (bed, discharge) at c.cell_fits.ensures
 
 pub loop-i-init : goal.loop-i-init
-loop-i-init c = (search rules, all_none _)
+loop-i-init c = all_none _
 
 pub returns-then-not-cell_fits : goal.returns-then-not-cell_fits
 unfolding cells_fit
 returns-then-not-cell_fits c =
-    refuses 7 (all_fails _ _ c.loop-i.i (search rules)
+    refuses refusal.Values (all_fails _ _ c.loop-i.i (search rules)
     (sym (cell-is (goal.at.returns-then-not-cell_fits c).After-cell_fits) ∙ c.if-not-cell_fits.true))
 
 pub loop-i-preserved : goal.loop-i-preserved
 loop-i-preserved c =
     let l = c.loop-i in
-    (search rules, all_more _ l.i l.invariant.1 (sym (cell-is (goal.at.loop-i-preserved c).After-cell_fits) ∙ c.if-not-cell_fits.false))
+    all_more _ l.i l.invariant (sym (cell-is (goal.at.loop-i-preserved c).After-cell_fits) ∙ c.if-not-cell_fits.false)
 
 pub returns : goal.returns
 unfolding cells_fit
 returns c =
     let e : c.loop-i.i ≡ length c.args.bed.now = omega arith in
-    passes 7 (rw e at c.loop-i.invariant.1)
+    passes refusal.Values (rw e at c.loop-i.invariant)

@@ -12,7 +12,6 @@ use Rattle.outlet.specs.declared.Outlets.{Outlets}
 use Rattle.drawing.specs.Ranges.{by_cell}
 use Rattle.drawing.proofs.DrawingLaws.{none_added}
 use Rattle.reach.specs.Ranges.{cut_drawn}
-use borrow.Author.Rules.{rules}
 use Rattle.reach.proofs.outlets.drawn_by_cell.Goals as goal
 
 -- added to zeros

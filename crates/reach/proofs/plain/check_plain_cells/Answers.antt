@@ -2,24 +2,23 @@
 use mathlib.Core.Path.{◌≡◌, refl, sym, ap, ◌∙◌}
 use mathlib.Core.Bool.{Bool, true, false}
 use mathlib.Core.List.{List}
-use mathlib.Core.Logic.{⊎_elim}
-use Prim.Native.Nat.{ℕ, ◌+◌, ◌-◌, ◌≤◌, ◌<◌}
+use Prim.Native.Nat.{ℕ, ◌+◌, ◌≤◌, ◌<◌}
 use native.Mathlib.Omega.{arith}
 use lib.IntN.{ℤ, pos, nat_abs}
 use lib.Dec.{leb}
 use lib.ListN.{length, get_or}
 use mir.Syntax.{w64}
-use mir.Val.{to_z, of_z}
 use mir.Facts.{to_z-of_z}
 use borrow.Author.Rules.{rules, sfits_of}
-use borrow.Author.Tests.{not-true, not-false, leb-true}
+use borrow.Author.Tests.{leb-true}
 use Rattle.numbers.specs.Index.{all_below}
 use Rattle.numbers.proofs.IndexLaws.{all_none, all_more, all_fails, off}
-use Rattle.reach.specs.Grounds.{cells_fit, carried_fits, carried_cells_fit}
+use Rattle.reach.specs.Grounds.{pass_or, cells_fit, carried_fits, carried_cells_fit}
 use Rattle.reach.specs.Limits.{carried_most}
 use Rattle.reach.specs.Ranges.{undrawn}
-use Rattle.reach.proofs.GroundsLaws.{passes, go_on, stop_at, last_one}
-use Rattle.reach.proofs.CarriedLaws.{carried_fits_at, none_drawn_lem, small_fits}
+use Rattle.reach.specs.declared.refusal.Refusal.TheVariants as refusal
+use Rattle.reach.proofs.GroundsLaws.{go_on, stop_at, last_one}
+use Rattle.reach.proofs.CarriedLaws.{carried_fits_at, none_drawn_lem}
 use Rattle.reach.proofs.Sound.{cell_fits_at, cell_sound, carried_sound}
 use Rattle.reach.proofs.plain.check_plain_cells.Invariants.{Balanced}
 use Rattle.reach.proofs.plain.check_plain_cells.Goals as goal
@@ -49,6 +48,12 @@ module _ (h b : List ℕ) (c : List ℤ) where
     broken = λ p. k.broken e;
   }
 
+  -- all cells passed: it tells ground 8
+  balanced_all : (t : Bool) → Balanced h b c (length h) t → carried_cells_fit h b c undrawn ≡ t
+  unfolding carried_cells_fit
+  balanced_all true k = k.kept refl
+  balanced_all false k = k.broken refl
+
 first_fits : (c : After-within-balanced) → c.within-balanced.result ≡ leb (nat_abs (get_or c.args.carried.now 0 (pos 0))) carried_most
 first_fits c = rw (to_z-of_z (sfits_of c.left-1.given)) at c.within-balanced.ensures
 
@@ -71,7 +76,7 @@ all_fit : (c : After-loop-i) → (let s = c.args in cells_fit s.bed.now s.depth.
 unfolding cells_fit
 all_fit c =
     let e : c.loop-i.i ≡ length c.args.bed.now = omega arith in
-    rw e at c.loop-i.invariant.1
+    rw e at c.loop-i.invariant.0
 
 pub returns-then-not-cell_fits : goal.returns-then-not-cell_fits
 unfolding cells_fit
@@ -79,39 +84,29 @@ returns-then-not-cell_fits c = sym (stop_at _ _ (all_fails _ _ c.loop-i.i (searc
 
 pub loop-i-init : goal.loop-i-init
 loop-i-init c = (
-  search rules,
   all_none _,
   to_z-of_z {w = w64} {z = get_or c.args.carried.now 0 (pos 0)} (sfits_of c.left-1.given),
   balanced_none _ _ _ (search rules) (first_fits (goal.at.loop-i-init c).After-within-balanced),
 )
 
-pub carried_fits-balanced-requires : goal.carried_fits-balanced-requires
-carried_fits-balanced-requires c =
-    let k = cell_sound _ _ _ _ _ (cell_fits_lem (goal.at.carried_fits-balanced-requires c).Else-not-cell_fits) in
-    record {
-      h_le_depth_most = (k.depth, (k.base, search rules));
-      l_bound = rw c.loop-i.invariant.2 (c.loop-i.invariant.3.right c.if-balanced.true);
-    }
+pub carried_fits-balanced-requires-clause-h_le_depth_most : goal.carried_fits-balanced-requires-clause-h_le_depth_most
+carried_fits-balanced-requires-clause-h_le_depth_most c =
+    let k = cell_sound _ _ _ _ _ (cell_fits_lem (goal.at.carried_fits-balanced-requires-clause-h_le_depth_most c).Else-not-cell_fits) in
+    (k.depth, (k.base, search rules))
 
 pub loop-i-preserved : goal.loop-i-preserved
 loop-i-preserved c =
     let l = c.loop-i in
     let right = to_z-of_z {w = w64} {z = get_or c.args.carried.now (l.i + 1) (pos 0)} (sfits_of c.right-1.given) in (
-      search rules,
-      all_more _ l.i l.invariant.1 (cell_fits_lem (goal.at.loop-i-preserved c).Else-not-cell_fits),
+      all_more _ l.i l.invariant.0 (cell_fits_lem (goal.at.loop-i-preserved c).Else-not-cell_fits),
       right,
       elim c.if-balanced.branch [
-        | then-balanced w ↦ balanced_more _ _ _ l.i (search rules) (l.invariant.3.kept w.if-balanced.true) (w.balanced-is ∙ (rw (l.invariant.2, right) at w.carried_fits-balanced.ensures) ∙ none_drawn_lem _ _ _ _)
-        | else-balanced w ↦ balanced_not _ _ _ l.i l.invariant.3 w.if-balanced.false w.balanced-is
+        | then-balanced w ↦ balanced_more _ _ _ l.i (search rules) (l.invariant.2.kept w.if-balanced.true) (w.balanced-is ∙ (rw (l.invariant.1, right) at w.carried_fits-balanced.ensures) ∙ none_drawn_lem _ _ _ _)
+        | else-balanced w ↦ balanced_not _ _ _ l.i l.invariant.2 w.if-balanced.false w.balanced-is
       ],
     )
 
-pub returns-then-not-balanced : goal.returns-then-not-balanced
-unfolding carried_cells_fit
-returns-then-not-balanced c = sym (go_on _ _ (all_fit (goal.at.returns-then-not-balanced c).After-loop-i) (stop_at _ _ (c.loop-i.invariant.3.broken (c.if-not-balanced.true))))
-
 pub returns : goal.returns
-unfolding carried_cells_fit
 returns c =
     let e : c.loop-i.i ≡ length c.args.depth.now = omega arith in
-    sym (go_on _ _ (all_fit (goal.at.returns c).After-loop-i) (last_one 8 _ ∙ sym (passes 8 (rw e at (c.loop-i.invariant.3.kept (c.if-not-balanced.false))))))
+    c.unless.ensures ∙ sym (go_on _ _ (all_fit (goal.at.returns c).After-loop-i) (last_one refusal.Carried _ ∙ ap (pass_or refusal.Carried) (balanced_all _ _ _ _ (rw e at c.loop-i.invariant.2))))

@@ -4,73 +4,70 @@ use Prim.Native.Nat.{ℕ, ◌≤◌}
 use lib.IntN.{pos}
 use lib.ListN.{length, replicate}
 use Rattle.reach.specs.Reach.{Reach}
-use Rattle.reach.specs.Grounds.{first_refusal, number_of}
-use Rattle.reach.specs.declared.refusal.Check.{Check}
-use Rattle.reach.specs.declared.refusal.Check.TheVariants.{Pass}
+use Rattle.reach.specs.Grounds.{first_refusal}
+use Rattle.reach.specs.Grounds.{Verdict}
 use Rattle.reach.proofs.GroundsLaws.{stood}
 use Rattle.reach.proofs.Sound.{outlets_few}
 use Rattle.encoding.specs.FromBytes.{twos, column_at}
 use Rattle.sheet.specs.Header.{header_size, count_of}
-use Rattle.sheet.specs.Opening.{sheet_record, lent, open_grounds, unopened_by}
+use Rattle.sheet.specs.Opening.{sheet_record, lent, open_grounds}
 use Rattle.sheet.proofs.OpeningLaws.{edition_long, within, Lent, lent_are, accepted, stayed}
+use Rattle.std.specs.Prelude.{Ok}
 use Rattle.sheet.proofs.opening.open_sheet.Goals as goal
-use Rattle.sheet.proofs.opening.open_sheet.Goals.{In-Pass, Start}
+use Rattle.sheet.proofs.opening.open_sheet.Goals.{In_default, Start}
 
 abbrev columns : Start → Reach
 columns s = lent s.args.bed.now s.args.depth.now s.args.discharge.now s.args.mass.now s.args.base.now s.args.carried.now s.args.outlets
 
-abbrev grounds : Start → Check
+abbrev grounds : Start → Verdict
 grounds s =
     let l = columns s in
     first_refusal (open_grounds s.args.s.now (length l.bed) (length l.depth) (length l.discharge) (length l.mass) (length l.base) (length l.carried) s.args.outlets)
 
-checked : (c : In-Pass) → grounds (goal.at.In-Pass c).Start ≡ Pass
-checked c = sym c.check_opening-checked.ensures ∙ c.in-Pass.is
+checked : (c : In_default) → grounds (goal.at.In_default c).Start ≡ Ok tt
+checked c = sym c.check_opening.ensures ∙ c.in_default.is
 
-long : (c : In-Pass) → header_size ≤ length c.args.s.now
+long : (c : In_default) → header_size ≤ length c.args.s.now
 long c = edition_long _ (stood _ (checked c) 0)
 
-lengths : (c : In-Pass) →
-    let l = columns (goal.at.In-Pass c).Start in
+lengths : (c : In_default) →
+    let l = columns (goal.at.In_default c).Start in
     Lent (count_of c.args.s.now) (length l.bed) (length l.depth) (length l.discharge) (length l.mass) (length l.base) (length l.carried)
 lengths c = lent_are _ _ _ _ _ _ _ (stood _ (checked c) 3)
 
-pub returns-in_default : goal.returns-in_default
-returns-in_default c =
-    let t = c.in_default.is in
-    stayed c.args.s.now (columns (goal.at.returns-in_default c).Start) _ refl (sym c.check_opening-checked.ensures ∙ t)
-    (c.unopened.ensures ∙ ap (λ (k : Check). unopened_by (number_of k) c.args.outlets) t)
+pub returns-in-Err : goal.returns-in-Err
+returns-in-Err c = stayed c.args.s.now (columns (goal.at.returns-in-Err c).Start) c.in-Err.r refl (sym c.check_opening.ensures ∙ c.in-Err.is) c.unopened.ensures
 
 pub layout_of-requires : goal.layout_of-requires
-layout_of-requires c = long (goal.at.layout_of-requires c).In-Pass
+layout_of-requires c = long (goal.at.layout_of-requires c).In_default
 
 pub fill-requires-clause-within : goal.fill-requires-clause-within
 fill-requires-clause-within c =
-    let g = stood _ (checked (goal.at.fill-requires-clause-within c).In-Pass) in
-    rw (lengths (goal.at.fill-requires-clause-within c).In-Pass).beds (within _ c.layout_of.result c.layout_of.ensures (g 1) (g 2))
+    let g = stood _ (checked (goal.at.fill-requires-clause-within c).In_default) in
+    rw (lengths (goal.at.fill-requires-clause-within c).In_default).beds (within _ c.layout_of.result c.layout_of.ensures (g 1) (g 2))
 
 pub fill-requires-clause-depth_len : goal.fill-requires-clause-depth_len
 fill-requires-clause-depth_len c =
-    let n = lengths (goal.at.fill-requires-clause-depth_len c).In-Pass in
+    let n = lengths (goal.at.fill-requires-clause-depth_len c).In_default in
     (n.depths ∙ sym n.beds, (n.discharges ∙ sym n.beds, (n.masses ∙ sym n.beds, n.bases ∙ sym n.beds)))
 
 pub cell_length_of-requires : goal.cell_length_of-requires
-cell_length_of-requires c = long (goal.at.cell_length_of-requires c).In-Pass
+cell_length_of-requires c = long (goal.at.cell_length_of-requires c).In_default
 
 pub held_of-requires : goal.held_of-requires
 held_of-requires c =
-    let k = (goal.at.held_of-requires c).In-Pass in
+    let k = (goal.at.held_of-requires c).In_default in
     record { header_size_in_bounds = long k; count_le_outlets_most = outlets_few _ _ (stood _ (checked k) 7) }
 
 pub returns : goal.returns
 unfolding sheet_record
 returns c =
     let sheet = c.args.s.now in
-    let n = lengths (goal.at.returns c).In-Pass in
+    let n = lengths (goal.at.returns c).In_default in
     let l = c.layout_of.ensures in
     let f = c.fill.ensures in
     let depths = f.depth_after ∙ ap₂ (column_at (λ v. v) 4 sheet) l.depths_are n.beds in
-    rw (accepted sheet (columns (goal.at.returns c).Start) (checked (goal.at.returns c).In-Pass))
+    rw (accepted sheet (columns (goal.at.returns c).Start) (checked (goal.at.returns c).In_default))
     (record {
       refusal_is = refl;
       length_is = c.cell_length_of.ensures;

@@ -1,46 +1,40 @@
 -- `stepping::outlets::draw` meets its contract: the outlets passed have what they got. Assumes nothing.
-use mathlib.Core.Path.{◌≡◌, sym, ap, ap₂, ◌∙◌}
-use mathlib.Core.Bool.{cond}
-use mathlib.Core.List.{List}
-use Prim.Native.Nat.{ℕ, ◌-◌, ◌≤◌, ◌<◌}
+use mathlib.Core.Path.{◌≡◌, ◌∙◌}
+use Prim.Native.Nat.{◌<◌}
 use native.Mathlib.Omega.{arith}
-use lib.Dec.{ltb}
-use lib.ListN.{length, get_or, length-map}
+use lib.ListN.{length, get_or, take}
 use borrow.Author.Rules.{rules}
-use Rattle.numbers.specs.Index.{tabulate}
-use Rattle.numbers.proofs.IndexLaws.{Written, written_none, written_more, written_below}
-use Rattle.outlet.specs.Outlets.{no_outlet, outlet_at, each_outlet}
-use Rattle.outlet.specs.declared.Outlet.{Outlet}
+use Rattle.numbers.proofs.IndexLaws.{written_more}
+use Rattle.outlet.specs.Outlets.{no_outlet, outlet_at}
+use Rattle.outlet.proofs.OutletLaws.{counted, at_hand, each_written}
 use Rattle.stepping.specs.Ranges.{outlet_with, with_draws}
 use Rattle.stepping.proofs.outlets.draw.Goals as goal
-use Rattle.stepping.proofs.outlets.draw.Goals.{In-loop-k, Start}
+use Rattle.stepping.proofs.outlets.draw.Goals.{Start, In-loop-k}
 
--- the list is an array of 32
-list-long : (s : Start) → length s.args.outlets.list ≡ 32
-list-long s = s.well_formed.0.1.1.1.0.1.0.1
+counts : (s : Start) → length (take s.args.outlets.count s.args.outlets.list) ≡ s.args.outlets.count
+counts s = counted s.args.outlets (search rules) s.requires.few
 
--- the outlet at hand has not been written yet
-here : (c : In-loop-k) → get_or c.loop-k.list c.loop-k.k no_outlet ≡ outlet_at c.args.outlets c.loop-k.k
-here c = c.loop-k.invariant.1.same c.loop-k.k (omega arith)
+module _ (c : In-loop-k) where
+  passes : c.loop-k.k < c.args.outlets.count
+  passes = omega (arith, c.loop-k-test.true, counts (goal.at.In-loop-k c).Start)
 
-few : (c : In-loop-k) → c.loop-k.k < 32
-few c = omega (arith, c.loop-k-test.true, c.requires.few)
+  -- the outlet at hand has not been written yet
+  here : get_or c.loop-k.o-items c.loop-k.k no_outlet ≡ outlet_at c.args.outlets c.loop-k.k
+  here = c.loop-k.invariant.same c.loop-k.k (omega arith) ∙ at_hand c.args.outlets c.loop-k.k passes
+
+pub outlet_with-requires : goal.outlet_with-requires
+outlet_with-requires c =
+    let i = (goal.at.outlet_with-requires c).In-loop-k in
+    let r = c.requires in
+    let k = c.loop-k.k in
+    rw (here i) (r.got_most k (passes i), (omega (arith, r.drawn_most k (passes i)), omega (arith, r.water_most k (passes i))))
 
 pub loop-k-preserved : goal.loop-k-preserved
 unfolding outlet_with
 loop-k-preserved c =
-    let a = c.args in
-    let w = c.loop-k.invariant in
-    let l = few (goal.at.loop-k-preserved c).In-loop-k in
-    (omega (arith, c.loop-k-test.true), written_more no_outlet (outlet_with a.outlets a.got) a.outlets.list c.loop-k.k _ _ w.1 (omega (arith, l, list-long (goal.at.loop-k-preserved c).Start)) (rw (here (goal.at.loop-k-preserved c).In-loop-k) at c.outlet_with.ensures))
+    let i = (goal.at.loop-k-preserved c).In-loop-k in
+    written_more no_outlet (outlet_with c.args.outlets c.args.got) _ c.loop-k.k _ _ c.loop-k.invariant c.loop-k-test.true (rw (here i) at c.outlet_with.ensures)
 
 pub returns : goal.returns
-unfolding with_draws each_outlet
-returns c =
-    let a = c.args in
-    let w = c.loop-k.invariant in
-    let f = outlet_with a.outlets a.got in
-    let all : c.loop-k.k ≡ a.outlets.count = omega (arith, w.0, c.loop-k-test.false) in
-    ap (λ (l : List Outlet). record { count = a.outlets.count; list = l })
-    (written_below no_outlet f a.outlets.list c.loop-k.k c.loop-k.list w.1
-    ∙ ap₂ (λ (m n : ℕ). tabulate m (λ j. cond (ltb j n) (f j) (outlet_at a.outlets j))) (list-long (goal.at.returns c).Start) all)
+unfolding with_draws
+returns c = each_written _ c.args.outlets _ _ (search rules) c.requires.few c.loop-k-test.false c.loop-k.invariant

@@ -12,7 +12,6 @@ use Rattle.outlet.specs.declared.Outlets.{Outlets}
 use Rattle.drawing.specs.Ranges.{by_cell}
 use Rattle.drawing.proofs.DrawingLaws.{none_added, sum_from_cell}
 use Rattle.water.specs.Water.{wants_from}
-use borrow.Author.Rules.{rules}
 use Rattle.stepping.proofs.outlets.wants_by_cell.Goals as goal
 
 want_at_lem : (os : Outlets) (a : List ℕ) → a ≡ tabulate 32 (λ k. (outlet_at os k).want) → (k : ℕ) → k < 32 → get_or a k 0 ≡ (outlet_at os k).want

@@ -8,7 +8,6 @@ use native.Mathlib.Omega.{arith}
 use lib.Dec.{leb}
 use lib.IntN.{ℤ}
 use lib.ListN.{length, get_or}
-use borrow.Author.Rules.{rules}
 use Rattle.numbers.specs.Index.{all_below, sum, tabulate}
 use Rattle.numbers.specs.Signed.{positive}
 use Rattle.numbers.proofs.IndexLaws.{zeros}
@@ -19,18 +18,17 @@ use Rattle.cfl.specs.Cfl.{meets_cfl}
 use Rattle.drawing.specs.Ranges.{Granted}
 use Rattle.reach.specs.Limits.{cells_most}
 use Rattle.reach.specs.Reach.{Reach, reach_of, cells}
-use Rattle.reach.proofs.GroundsLaws.{passed, refused_by}
+use Rattle.reach.proofs.GroundsLaws.{passed, refused_by, refusal_of}
 use Rattle.reach.proofs.Sound.{Sound, sound, outlets_few, outlet_sound}
 use Rattle.water.specs.Ranges.{flow_of, Swept, sides_meet}
 use Rattle.water.specs.Water.{wants_from, new_depth}
 use Rattle.water.proofs.WaterLaws.{sides_same, swept_same}
 use Rattle.timestep.specs.GreatestStep.{place_speed}
 use Rattle.update.specs.Step.{depths_fit}
-use Rattle.stepping.specs.StepCall.{StepCameTo}
-use Rattle.stepping.specs.declared.step.StepAnswer.{StepAnswer}
-use Rattle.stepping.proofs.StepCallLaws.{mesh, water_fits, met_is, depths_are, wanted_long, depth_of, discharge_of, grants, got_of, stopped_11, stopped_12, stayed}
+use Rattle.stepping.proofs.StepCallLaws.{stays_by, mesh, water_fits, met_is, depths_are, wanted_long, depth_of, discharge_of, grants, got_of, stopped_11, stopped_12}
+use Rattle.reach.specs.declared.refusal.Refusal.TheVariants as refusal
 use Rattle.stepping.proofs.step.advance.Goals as goal
-use Rattle.stepping.proofs.step.advance.Goals.{After-sweep, In-Pass, In-Pass-check_depths, Start}
+use Rattle.stepping.proofs.step.advance.Goals.{After-sweep, In_default, In_default-check_depths, Start}
 
 -- the record as it came, and that it is sound
 abbrev reach : Start → Reach
@@ -87,32 +85,33 @@ met s = meets_cfl (place_speed (reach s)) (cells (reach s) + 1) s.args.x s.args.
 met-same : (s : Start) {v : Bool} → sides_meet (flow_of s.args.bed.now s.args.depth.now s.args.discharge.now s.args.x s.args.held.boundaries) s.args.t ≡ v → met s ≡ v
 met-same s e = sym (met_is (reach s) (whole s) s.args.t) ∙ sym (sides_same (reach s) s.args.t) ∙ e
 
-cfl : (c : In-Pass) → met (goal.at.In-Pass c).Start ≡ true
-cfl c = met-same (goal.at.In-Pass c).Start (passed 11 _ _ c.sweep.ensures.value c.in-Pass.is)
+cfl : (c : In_default) → met (goal.at.In_default c).Start ≡ true
+cfl c = met-same (goal.at.In_default c).Start (passed refusal.Cfl _ _ c.sweep.ensures.value c.in_default.is)
 
 -- ground 12
 tested : (w : After-sweep) → all_below (cells (reach (goal.at.After-sweep w).Start)) (λ i. leb (get_or (depth w) i 0) depth_most) ≡ depths_fit (reach (goal.at.After-sweep w).Start) w.args.t
 tested w = depths_are (reach (goal.at.After-sweep w).Start) (whole (goal.at.After-sweep w).Start) w.args.t (depth w) (depths-found w)
 
-deep : (c : In-Pass-check_depths) → depths_fit (reach (goal.at.In-Pass-check_depths c).Start) c.args.t ≡ true
-deep c = sym (tested (goal.at.In-Pass-check_depths c).After-sweep) ∙ passed 12 _ _ c.check_depths.ensures c.in-Pass-check_depths.is
+deep : (c : In_default-check_depths) → depths_fit (reach (goal.at.In_default-check_depths c).Start) c.args.t ≡ true
+deep c = sym (tested (goal.at.In_default-check_depths c).After-sweep) ∙ passed refusal.Depth _ _ c.check_depths.ensures c.in_default-check_depths.is
 
-pub returns-in_default : goal.returns-in_default
-returns-in_default c =
+pub returns-in-Err : goal.returns-in-Err
+returns-in-Err c =
     let a = c.args in
-    subst (λ (r : StepAnswer). StepCameTo (reach (goal.at.returns-in_default c).Start) a.t a.f r a.depth.now a.discharge.now a.mass.now a.base.now a.carried.now) (sym c.stopped.ensures)
-    (stayed (reach (goal.at.returns-in_default c).Start) a.t a.f 11 (omega arith)
-    (stopped_11 (reach (goal.at.returns-in_default c).Start) a.t a.f c.requires.boundaries_value c.requires.t_value.0 c.requires.t_value.1 (met-same (goal.at.returns-in_default c).Start (refused_by 11 _ _ _ c.sweep.ensures.value c.in_default.is))))
+    let s = (goal.at.returns-in-Err c).Start in
+    stays_by (reach s) a.t a.f refusal.Cfl _ _ (refusal_of refusal.Cfl _ _ _ c.sweep.ensures.value c.in-Err.is) c.refused.ensures
+    (stopped_11 (reach s) a.t a.f c.requires.boundaries_value c.requires.t_value.0 c.requires.t_value.1 (met-same s (refused_by refusal.Cfl _ _ _ c.sweep.ensures.value c.in-Err.is)))
 
 pub check_depths-requires : goal.check_depths-requires
 check_depths-requires c = omega (arith, depth-length (goal.at.check_depths-requires c).After-sweep, (whole (goal.at.check_depths-requires c).Start).few)
 
-pub returns-in_default-check_depths : goal.returns-in_default-check_depths
-returns-in_default-check_depths c =
+pub returns-in-Err-check_depths : goal.returns-in-Err-check_depths
+returns-in-Err-check_depths c =
     let a = c.args in
-    let f = sym (tested (goal.at.returns-in_default-check_depths c).After-sweep) ∙ refused_by 12 _ _ _ c.check_depths.ensures c.in_default-check_depths.is in
-    subst (λ (r : StepAnswer). StepCameTo (reach (goal.at.returns-in_default-check_depths c).Start) a.t a.f r a.depth.now a.discharge.now a.mass.now a.base.now a.carried.now) (sym c.stopped-in_default-check_depths.ensures)
-    (stayed (reach (goal.at.returns-in_default-check_depths c).Start) a.t a.f 12 (omega arith) (stopped_12 (reach (goal.at.returns-in_default-check_depths c).Start) a.t a.f c.requires.boundaries_value c.requires.t_value.0 c.requires.t_value.1 (cfl (goal.at.returns-in_default-check_depths c).In-Pass) f))
+    let s = reach (goal.at.returns-in-Err-check_depths c).Start in
+    let f = sym (tested (goal.at.returns-in-Err-check_depths c).After-sweep) ∙ refused_by refusal.Depth _ _ _ c.check_depths.ensures c.in-Err-check_depths.is in
+    stays_by s a.t a.f refusal.Depth _ _ (refusal_of refusal.Depth _ _ _ c.check_depths.ensures c.in-Err-check_depths.is) c.refused-in-Err-check_depths.ensures
+    (stopped_12 s a.t a.f c.requires.boundaries_value c.requires.t_value.0 c.requires.t_value.1 (cfl (goal.at.returns-in-Err-check_depths c).In_default) f)
 
 pub deal_out-got-requires : goal.deal_out-got-requires
 deal_out-got-requires c =
@@ -157,7 +156,7 @@ complete-requires-clause-step_passes c =
     let k = whole (goal.at.complete-requires-clause-step_passes c).Start in
     let r = reach (goal.at.complete-requires-clause-step_passes c).Start in
     let t = c.args.t in
-    let found : (i : ℕ) → i < cells r → i < 512 = λ i l. omega (arith, l, k.few) in record { time = c.requires.t_value.0; strickler = c.requires.t_value.1; cfl = cfl (goal.at.complete-requires-clause-step_passes c).In-Pass; deep = deep (goal.at.complete-requires-clause-step_passes c).In-Pass-check_depths }
+    let found : (i : ℕ) → i < cells r → i < 512 = λ i l. omega (arith, l, k.few) in record { time = c.requires.t_value.0; strickler = c.requires.t_value.1; cfl = cfl (goal.at.complete-requires-clause-step_passes c).In_default; deep = deep (goal.at.complete-requires-clause-step_passes c).In_default-check_depths }
 
 pub complete-requires-clause-step_found : goal.complete-requires-clause-step_found
 complete-requires-clause-step_found c =
@@ -170,6 +169,6 @@ complete-requires-clause-step_found c =
       discharge_long = omega (arith, discharge-length (goal.at.complete-requires-clause-step_found c).After-sweep, k.few);
       nets = (swept (goal.at.complete-requires-clause-step_found c).After-sweep).nets;
       depths = depths-found (goal.at.complete-requires-clause-step_found c).After-sweep;
-      discharges = discharge_of r k t (wants (goal.at.complete-requires-clause-step_found c).After-sweep) (wanted (goal.at.complete-requires-clause-step_found c).After-sweep) (net (goal.at.complete-requires-clause-step_found c).After-sweep) (given (goal.at.complete-requires-clause-step_found c).After-sweep) (depth (goal.at.complete-requires-clause-step_found c).After-sweep) (discharge (goal.at.complete-requires-clause-step_found c).After-sweep) (swept (goal.at.complete-requires-clause-step_found c).After-sweep) (deep (goal.at.complete-requires-clause-step_found c).In-Pass-check_depths);
+      discharges = discharge_of r k t (wants (goal.at.complete-requires-clause-step_found c).After-sweep) (wanted (goal.at.complete-requires-clause-step_found c).After-sweep) (net (goal.at.complete-requires-clause-step_found c).After-sweep) (given (goal.at.complete-requires-clause-step_found c).After-sweep) (depth (goal.at.complete-requires-clause-step_found c).After-sweep) (discharge (goal.at.complete-requires-clause-step_found c).After-sweep) (swept (goal.at.complete-requires-clause-step_found c).After-sweep) (deep (goal.at.complete-requires-clause-step_found c).In_default-check_depths);
       gots = got_of r k t (wants (goal.at.complete-requires-clause-step_found c).After-sweep) (wanted (goal.at.complete-requires-clause-step_found c).After-sweep) (net (goal.at.complete-requires-clause-step_found c).After-sweep) (given (goal.at.complete-requires-clause-step_found c).After-sweep) (depth (goal.at.complete-requires-clause-step_found c).After-sweep) (discharge (goal.at.complete-requires-clause-step_found c).After-sweep) (swept (goal.at.complete-requires-clause-step_found c).After-sweep) _ c.deal_out-got.ensures;
     }

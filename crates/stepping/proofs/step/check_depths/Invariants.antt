@@ -1,23 +1,15 @@
 use mathlib.Core.Path.{◌≡◌}
 use mathlib.Core.Bool.{Bool, true}
 use mathlib.Core.List.{List}
-use Prim.Native.Nat.{ℕ, ◌-◌, ◌≤◌}
-use native.Mathlib.Omega.{arith}
+use Prim.Native.Nat.{ℕ}
 use lib.Dec.{leb}
 use lib.ListN.{get_or}
-use borrow.Author.Rules.{rules}
-use borrow.Author.Tests.{le-leb, lt-leb}
 use Rattle.numbers.specs.Index.{all_below}
-use Rattle.numbers.proofs.IndexLaws.{all_none, all_more, all_fails}
 use Rattle.flux.specs.Limits.{depth_most}
-use Rattle.reach.proofs.GroundsLaws.{passes, refuses}
 use Rattle.stepping.proofs.step.check_depths.Given as goal
 
 abbrev depth_fits : List ℕ → ℕ → Bool
 depth_fits d i = leb (get_or d i 0) depth_most
 
 abbrev pub invariant-loop-i : goal.invariant-loop-i
-invariant-loop-i l = (l.i ≤ l.n) × (all_below l.i (depth_fits l.depth) ≡ true)
-
-abbrev pub decreases-loop-i : goal.decreases-loop-i
-decreases-loop-i l = l.n - l.i
+invariant-loop-i l = all_below l.i (depth_fits l.depth) ≡ true

@@ -1,5 +1,5 @@
 -- `stepping::step::complete` meets its contract: what was found of the step is what the definitions say (`StepCallLaws`). Assumes nothing.
-use mathlib.Core.Path.{◌≡◌, refl, sym, ap, ◌∙◌, subst}
+use mathlib.Core.Path.{◌≡◌, sym, ap, ◌∙◌, subst}
 use mathlib.Core.Bool.{not, cond}
 use mathlib.Core.List.{List}
 use Prim.Native.Nat.{ℕ, ◌-◌}
@@ -7,14 +7,14 @@ use native.Mathlib.Omega.{arith}
 use lib.IntN.{ℤ}
 use lib.ListN.{length, get_or}
 use mir.Facts.{to_z-of_z}
-use borrow.Author.Rules.{rules, sfits_of}
+use borrow.Author.Rules.{sfits_of}
 use Rattle.numbers.specs.Index.{tabulate}
 use Rattle.outlet.specs.declared.Outlets.{Outlets}
 use Rattle.flux.specs.Ranges.{Mesh}
 use Rattle.reach.specs.Ranges.{undrawn}
 use Rattle.reach.specs.Reach.{Reach, reach_of, cells}
 use Rattle.reach.specs.Grounds.{all_totals_fit}
-use Rattle.reach.proofs.GroundsLaws.{passed, refused_by}
+use Rattle.reach.proofs.GroundsLaws.{passed, refused_by, refusal_of}
 use Rattle.reach.proofs.Sound.{Sound, sound, outlets_few, ledger_fits_lem}
 use Rattle.reach.specs.declared.held.Held.{Held}
 use Rattle.mass.specs.Transport.{mass_columns}
@@ -24,8 +24,8 @@ use Rattle.update.specs.Step.{keeps_sums, transported_first, step_outlets, step_
 use Rattle.update.proofs.StepLaws.{step_count}
 use Rattle.stepping.specs.StepCall.{StepCameTo}
 use Rattle.stepping.specs.Ranges.{StepFound}
-use Rattle.stepping.specs.declared.step.StepAnswer.{StepAnswer}
-use Rattle.stepping.proofs.StepCallLaws.{mesh, sums_are, net_at_lem, summable, depth_written, discharge_written, carried_written, addable, room, room_when, small_when, ready_when, held_after, mass_none, gained_when, taken_when, base_when, carried_when, stopped_13, stepped_on, stayed, came_out}
+use Rattle.stepping.proofs.StepCallLaws.{stays_by, mesh, sums_are, net_at_lem, summable, depth_written, discharge_written, carried_written, addable, room, room_when, small_when, ready_when, held_after, mass_none, gained_when, taken_when, base_when, carried_when, stopped_13, stepped_on, came_out}
+use Rattle.reach.specs.declared.refusal.Refusal.TheVariants as refusal
 use Rattle.stepping.proofs.step.complete.Goals as goal
 use Rattle.stepping.proofs.step.complete.Goals.{After-book-booked, After-keeps_sums-transports, After-transport_when, After-write_step, Start}
 
@@ -85,7 +85,7 @@ came c l is =
     let w = found (goal.at.After-write_step c).Start in
     let e = transporting (goal.at.After-write_step c).After-keeps_sums-transports in
     let wrote = c.write_step.ensures in
-    let fits = sym (ap all_totals_fit (booked (goal.at.After-write_step c).After-book-booked)) ∙ passed 13 _ _ c.check_room.ensures c.in-Pass.is in
+    let fits = sym (ap all_totals_fit (booked (goal.at.After-write_step c).After-book-booked)) ∙ passed refusal.Total _ _ c.check_room.ensures c.in_default.is in
     came_out r t c.args.f
     (stepped_on r t c.args.f c.requires.boundaries_value p.time p.strickler p.cfl p.deep fits)
     (booked (goal.at.After-write_step c).After-book-booked)
@@ -110,13 +110,14 @@ pub check_room-requires : goal.check_room-requires
 check_room-requires c =
     rw (booked (goal.at.check_room-requires c).After-book-booked, step_count (reach (goal.at.check_room-requires c).Start) c.args.t) (outlets_few _ _ (whole (goal.at.check_room-requires c).Start).outlets)
 
-pub returns-in_default : goal.returns-in_default
-returns-in_default c =
+pub returns-in-Err : goal.returns-in-Err
+returns-in-Err c =
     let a = c.args in
+    let s = reach (goal.at.returns-in-Err c).Start in
     let p = c.requires.step_passes in
-    let f = sym (ap all_totals_fit (booked (goal.at.returns-in_default c).After-book-booked)) ∙ refused_by 13 _ _ _ c.check_room.ensures c.in_default.is in
-    subst (λ (r : StepAnswer). StepCameTo (reach (goal.at.returns-in_default c).Start) a.t a.f r a.depth.now a.discharge.now a.mass.now a.base.now a.carried.now) (sym c.stopped.ensures)
-    (stayed (reach (goal.at.returns-in_default c).Start) a.t a.f 13 (omega arith) (stopped_13 (reach (goal.at.returns-in_default c).Start) a.t a.f c.requires.boundaries_value p.time p.strickler p.cfl p.deep f))
+    let f = sym (ap all_totals_fit (booked (goal.at.returns-in-Err c).After-book-booked)) ∙ refused_by refusal.Total _ _ _ c.check_room.ensures c.in-Err.is in
+    stays_by s a.t a.f refusal.Total _ _ (refusal_of refusal.Total _ _ _ c.check_room.ensures c.in-Err.is) c.refused.ensures
+    (stopped_13 s a.t a.f c.requires.boundaries_value p.time p.strickler p.cfl p.deep f)
 
 pub returns-then-held-eq0 : goal.returns-then-held-eq0
 returns-then-held-eq0 c =

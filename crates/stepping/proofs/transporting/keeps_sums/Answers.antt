@@ -1,8 +1,8 @@
 -- `stepping::transporting::keeps_sums` meets its contract. The loop: the cells passed cover what came into them. Assumes nothing.
 use mathlib.Core.Path.{◌≡◌, sym, ap₂, ◌∙◌}
-use mathlib.Core.Bool.{Bool, true}
+use mathlib.Core.Bool.{Bool}
 use mathlib.Core.List.{List}
-use Prim.Native.Nat.{ℕ, ◌+◌, ◌-◌, ◌≤◌, ◌<◌}
+use Prim.Native.Nat.{ℕ, ◌+◌, ◌≤◌, ◌<◌}
 use native.Mathlib.Omega.{arith}
 use lib.Dec.{leb}
 use lib.IntN.{ℤ, pos, ◌+ℤ◌, neg_ℤ, nat_abs}
@@ -10,8 +10,6 @@ use lib.ListN.{length, get_or}
 use mir.Syntax.{w64}
 use mir.Facts.{to_z-of_z}
 use borrow.Author.Rules.{sfits_of}
-use borrow.Author.Tests.{not-true, not-false}
-use Rattle.numbers.specs.Index.{all_below}
 use Rattle.numbers.specs.Signed.{positive}
 use Rattle.numbers.proofs.IndexLaws.{all_none, all_more, all_fails}
 use Rattle.numbers.proofs.SignedLaws.{abs_add}
@@ -59,7 +57,7 @@ cell-is c =
     e ∙ ap₂ (λ (y z : ℤ). leb (positive y + positive (neg_ℤ z)) (get_or c.args.new_depth.now i 0)) (left-sum (goal.at.After-covers c).After-sum_of) (right-sum (goal.at.After-covers c).After-sum_of-in-loop-i)
 
 pub loop-i-init : goal.loop-i-init
-loop-i-init c = (omega arith, all_none _)
+loop-i-init c = all_none _
 
 pub sum_of-requires : goal.sum_of-requires
 sum_of-requires c =
@@ -87,16 +85,13 @@ unfolding sums_kept
 returns-then-not-covers c =
     sym (all_fails _ _ c.loop-i.i (index (goal.at.returns-then-not-covers c).In-loop-i).0 (sym (cell-is (goal.at.returns-then-not-covers c).After-covers) ∙ c.if-not-covers.true))
 
-pub loop-i-smaller : goal.loop-i-smaller
-loop-i-smaller c = let l = index (goal.at.loop-i-smaller c).In-loop-i in omega (arith, l.0)
-
 pub loop-i-preserved : goal.loop-i-preserved
 loop-i-preserved c =
     let l = c.loop-i in
-    (omega (arith, (index (goal.at.loop-i-preserved c).In-loop-i).0), all_more _ l.i l.invariant.1 (sym (cell-is (goal.at.loop-i-preserved c).After-covers) ∙ c.if-not-covers.false))
+    all_more _ l.i l.invariant (sym (cell-is (goal.at.loop-i-preserved c).After-covers) ∙ c.if-not-covers.false)
 
 pub returns : goal.returns
 unfolding sums_kept
 returns c =
     let e : c.loop-i.i ≡ c.args.n = omega arith in
-    sym (rw e at c.loop-i.invariant.1)
+    sym (rw e at c.loop-i.invariant)

@@ -19,5 +19,5 @@ returns c =
     let b = c.bits_in in
     let p = column_bytes 4 (e.kind ∷ e.depth ∷ e.concentration ∷ 0 ∷ []) in
     let f : SFits w64 e.discharge = record { sfits = omega (arith, mag_abs e.discharge, c.requires.1) } in
-    written_part p (column_bytes 8 (b.result ∷ [])) c.args.out.now _ _ 16 (sym (length_column 4 _)) c.fill.ensures c.fill-2.ensures
+    written_part p (column_bytes 8 (b.result ∷ [])) c.args.out.now _ _ 16 (sym (length_column 4 _)) (rw c.from.ensures at c.fill.ensures) c.fill-2.ensures
     ∙ ap (λ (x : ℕ). written (p ++ column_bytes 8 (x ∷ [])) c.args.out.now) (b.ensures ∙ ap (bits 8) (to_z-of_z f))

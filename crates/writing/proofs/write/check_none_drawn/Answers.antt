@@ -6,25 +6,26 @@ use borrow.Author.Tests.{eq-eqb, ne_eqb}
 use Rattle.numbers.proofs.IndexLaws.{all_none, all_more, all_fails}
 use Rattle.reach.proofs.GroundsLaws.{passes, refuses}
 use Rattle.writing.specs.Writing.{none_drawn}
+use Rattle.reach.specs.declared.refusal.Refusal.TheVariants as refusal
 use Rattle.writing.proofs.write.check_none_drawn.Goals as goal
 
 pub loop-k-init : goal.loop-k-init
-loop-k-init c = (search rules, all_none _)
+loop-k-init c = all_none _
 
-pub returns-then-o-ne0 : goal.returns-then-o-ne0
+pub returns-then-outlets-k-ne0 : goal.returns-then-outlets-k-ne0
 unfolding none_drawn
-returns-then-o-ne0 c =
+returns-then-outlets-k-ne0 c =
     let l = c.loop-k in
-    refuses 14 (all_fails _ _ l.k (search rules) (ne_eqb _ _ c.if-o-ne0.true))
+    refuses refusal.NotTransported (all_fails _ _ l.k (search rules) (ne_eqb _ _ c.if-outlets-k-ne0.true))
 
 pub loop-k-preserved : goal.loop-k-preserved
 loop-k-preserved c =
     let l = c.loop-k in
-    (search rules, all_more _ l.k l.invariant.1 (eq-eqb _ _ c.if-o-ne0.false))
+    all_more _ l.k l.invariant (eq-eqb _ _ c.if-outlets-k-ne0.false)
 
 pub returns : goal.returns
 unfolding none_drawn
 returns c =
     let l = c.loop-k in
     let e : l.k ≡ c.args.outlets.count = omega arith in
-    passes 14 (rw e at l.invariant.1)
+    passes refusal.NotTransported (rw e at l.invariant)

@@ -1,9 +1,0 @@
-use Rattle.outlet.proofs.LentLaws.{Copying}
-use Prim.Native.Nat.{◌-◌}
-use Rattle.outlet.proofs.load.Given as goal
-
-abbrev pub invariant-loop-i : goal.invariant-loop-i
-invariant-loop-i l = Copying l.list l.initial.room l.n l.room l.i
-
-abbrev pub decreases-loop-i : goal.decreases-loop-i
-decreases-loop-i l = l.n - l.i
