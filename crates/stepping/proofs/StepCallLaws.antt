@@ -55,7 +55,8 @@ use Rattle.transport.specs.Ranges.{mass_columns_with, Small}
 use Rattle.transport.proofs.CallsLaws.{crossed_with, ready_entering, moved_none, gained_entering, taken_entering, shares_moved, outlets_are, small, ledger_is, carried_zero}
 use Rattle.water.specs.Sides.{side_speed, cell_side, boundary_side, left_side, right_side}
 use Rattle.water.specs.Water.{net_at, wants_from, draws, draw_of, new_depth, new_discharge}
-use Rattle.water.specs.Ranges.{flux_most, flow_of, FlowFits, side_meets, sides_meet, granted, granted_depth, granted_discharge, Swept}
+use Rattle.water.specs.Fits.{flux_most}
+use Rattle.water.specs.Ranges.{flow_of, FlowFits, side_meets, sides_meet, granted, granted_depth, granted_discharge, Swept}
 use Rattle.water.proofs.WaterLaws.{right_side_cell, right_side_end, net_small, granted_is, depth_is, discharge_is, draws_dealt, draw_most}
 use Rattle.timestep.specs.GreatestStep.{boundary_speed, left_speed, right_speed, place_speed}
 use Rattle.stepping.specs.declared.step.StepAnswer.{StepAnswer}

@@ -4,7 +4,7 @@ ghost use Rattle.reach.specs.Limits.{total_most};
 ghost use Rattle.reach.specs.Grounds.{ledger_fits};
 ghost use Rattle.transport.specs.Calls.{ledger_with};
 ghost use Rattle.transport.specs.Ranges.{Small};
-ghost use Rattle.water.specs.Ranges.{flux_most};
+ghost use Rattle.water.specs.Fits.{flux_most};
 ghost use Rattle.update.specs.Step.{with_water, with_boundary_water};
 
 use numbers::signed::{left_part, right_part};

@@ -11,7 +11,7 @@ ghost use Rattle.mass.specs.Transport.{mass_columns, moved_outlets};
 ghost use Rattle.mass.specs.Ranges.{Ready, OutletsReady};
 ghost use Rattle.transport.specs.Calls.{ledger_with};
 ghost use Rattle.transport.specs.Ranges.{mass_columns_with, Small};
-ghost use Rattle.water.specs.Ranges.{flux_most};
+ghost use Rattle.water.specs.Fits.{flux_most};
 ghost use Rattle.reach.specs.Refusals.{number};
 ghost use Rattle.update.specs.Step.{with_boundary_water, time_fits};
 ghost use Rattle.stepping.specs.Ranges.{BoundaryMassWhen, Room, with_draws, StepPasses, StepFound};

@@ -9,7 +9,7 @@ ghost use Rattle.flux.specs.Ranges.{Mesh};
 ghost use Rattle.friction.specs.Friction.{drag, slowed_by};
 ghost use Rattle.friction.specs.Ranges.{strickler_most, conveyance_squared_most};
 ghost use Rattle.reach.specs.Grounds.{pass_or};
-ghost use Rattle.water.specs.Ranges.{side_of, SideStateFits, ExchangeFits, flow_of, InRange, FlowFits, side_meets, sides_meet, Swept};
+ghost use Rattle.water.specs.Ranges.{side_of, flow_of, InRange, FlowFits, side_meets, sides_meet, Swept};
 ghost use Rattle.flux.specs.Velocity.{velocity};
 ghost use Rattle.reach.specs.declared.boundary.BoundaryPlace.TheVariants.{Right};
 ghost use Rattle.water.specs.Sides.{boundary_side};
@@ -22,14 +22,11 @@ use numbers::root::SquareRoots;
 use numbers::signed::joined;
 use reach::boundary::{Boundary, BoundaryPlace};
 use reach::refusal::Refusal;
-use water::{
-    Exchange, SideState, boundary_state, cell_state, discharge_after, exchange_between,
-    exchange_level,
-};
+use water::sides::{Exchange, SideState};
+use water::{boundary_state, cell_state, discharge_after, exchange_between, exchange_level};
 
 // |u| of a side
 fn speed_of(c: SideState) -> u64
-    requires { SideStateFits c }
     ensures { (result ≡ nat_abs (side_of c).velocity) × (result ≤ velocity_most) }
 {
     c.right + c.left
@@ -37,7 +34,7 @@ fn speed_of(c: SideState) -> u64
 
 // Whether CFL, kept so far, is kept at the side c too
 fn still_meets(met: bool, t: u64, x: u64, c: SideState) -> bool
-    requires { Mesh t x × SideStateFits c }
+    requires { Mesh t x }
     ensures { result ≡ (met && side_meets t x (side_of c)) }
 {
     met && t * (speed_of(c) + c.wave) <= 1_000 * x
@@ -55,8 +52,8 @@ fn right_side(
 ) -> SideState
     requires depth_len { (length depth.now ≡ length bed.now) × (length discharge.now ≡ length bed.now) }
     requires in_range { i < length bed.now → InRange (get_or bed.now i (pos 0)) (get_or depth.now i 0) (get_or discharge.now i (pos 0)) }
-    requires side_state_fits { SideStateFits before × ((boundary.depth ≤ depth_most) × (nat_abs boundary.discharge ≤ velocity_most * boundary.depth)) }
-    ensures { SideStateFits result × (side_of result ≡ cond (ltb i (length bed.now)) (record { bed = get_or bed.now i (pos 0); depth = get_or depth.now i 0; velocity = velocity (get_or depth.now i 0) (get_or discharge.now i (pos 0)) }) (boundary_side Right boundary (side_of before))) }
+    requires boundary_fits { (boundary.depth ≤ depth_most) × (nat_abs boundary.discharge ≤ velocity_most * boundary.depth) }
+    ensures { side_of result ≡ cond (ltb i (length bed.now)) (record { bed = get_or bed.now i (pos 0); depth = get_or depth.now i 0; velocity = velocity (get_or depth.now i 0) (get_or discharge.now i (pos 0)) }) (boundary_side Right boundary (side_of before)) }
 {
     if i < bed.len() {
         return cell_state(bed[i], depth[i], discharge[i], roots);
@@ -66,7 +63,6 @@ fn right_side(
 
 // N of a crossing
 fn net_of(c: Exchange) -> i64
-    requires { ExchangeFits c }
     ensures { result ≡ sub_ℕ c.rightward c.leftward }
 {
     joined(c.rightward, c.leftward)
@@ -74,7 +70,6 @@ fn net_of(c: Exchange) -> i64
 
 // What a cell gives of what its outlets want: no more than its own two outgoing W leave of its depth
 fn granted_of(h: u64, l: Exchange, r: Exchange, wanted: u64) -> u64
-    requires { ExchangeFits l × ExchangeFits r }
     ensures { result ≡ min (h - (l.leftward + r.rightward)) wanted }
 {
     if wanted == 0 {
@@ -86,7 +81,7 @@ fn granted_of(h: u64, l: Exchange, r: Exchange, wanted: u64) -> u64
 // The depth of a cell after the step, by what crosses at its left and at its right and what it gives. CFL keeps the difference from being cut off
 // at 0.
 fn depth_after(h: u64, l: Exchange, r: Exchange, given: u64) -> u64
-    requires { (h ≤ depth_most) × ((given ≤ h) × (ExchangeFits l × ExchangeFits r)) }
+    requires { (h ≤ depth_most) × (given ≤ h) }
     ensures { result ≡ h + l.rightward + r.leftward - (l.leftward + r.rightward + given) }
 {
     (h + l.rightward + r.leftward).saturating_sub(l.leftward + r.rightward + given)
@@ -103,8 +98,8 @@ fn momentum_after(
     r: Exchange,
     depth: u64,
 ) -> i64
-    requires d_le_conveyance_squared_most { (d ≤ conveyance_squared_most) × ((t ≤ time_step_most) × SideStateFits c) }
-    requires q_bound { (nat_abs q ≤ velocity_most * depth_most) × ((depth ≤ 2_000_000_000) × (ExchangeFits l × ExchangeFits r)) }
+    requires d_le_conveyance_squared_most { (d ≤ conveyance_squared_most) × (t ≤ time_step_most) }
+    requires q_bound { (nat_abs q ≤ velocity_most * depth_most) × (depth ≤ 2_000_000_000) }
     ensures { result ≡ nearest (velocity_most * depth) (slowed_by f d (drag t (nat_abs (side_of c).velocity)) (q +ℤ pos (l.momentum + l.lost_right) -ℤ pos (r.momentum + r.lost_left))) }
 {
     if depth == 0 {
@@ -124,7 +119,6 @@ fn momentum_after(
 
 // Whether no water stands at either side
 fn both_dry(l: SideState, r: SideState) -> bool
-    requires { SideStateFits l × SideStateFits r }
     ensures { result ≡ eqb (l.depth + r.depth) 0 }
 {
     l.depth + r.depth == 0

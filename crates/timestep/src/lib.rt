@@ -3,7 +3,7 @@
 
 ghost use Rattle.std.specs.Prelude.{◌≡◌, ◌*◌, ◌≤◌, nat_abs};
 ghost use Rattle.flux.specs.Limits.{depth_most, velocity_most};
-ghost use Rattle.water.specs.Ranges.{side_of, SideStateFits};
+ghost use Rattle.water.specs.Ranges.{side_of};
 ghost use Rattle.reach.specs.Reach.{came};
 ghost use Rattle.reach.specs.Refusals.{number};
 ghost use Rattle.timestep.specs.GreatestStep.{boundary_speed, refused_with, greatest};
@@ -14,7 +14,8 @@ use reach::boundary::{Boundary, BoundaryPlace, FED};
 use reach::check_record;
 use reach::held::Held;
 use reach::refusal::Refusal;
-use water::{SideState, boundary_state, cell_state};
+use water::sides::SideState;
+use water::{boundary_state, cell_state};
 
 // 0 or the number of the refusal; the boundaries and the ledger as they came; the greatest time step, ms; the place of the greatest
 // |u|+a, the highest among equals: 0 the left boundary, 1..n the cells, n+1 the right boundary
@@ -29,7 +30,7 @@ pub struct GreatestAnswer {
 
 // |u|+a of a boundary at the place p beside the cell c; one that is not fed counts as 0
 pub fn boundary_speed(p: BoundaryPlace, e: Boundary, c: SideState, roots: &SquareRoots) -> u64
-    requires { SideStateFits c × ((e.depth ≤ depth_most) × (nat_abs e.discharge ≤ velocity_most * e.depth)) }
+    requires { (e.depth ≤ depth_most) × (nat_abs e.discharge ≤ velocity_most * e.depth) }
     ensures { result ≡ boundary_speed p e (side_of c) }
 {
     if e.kind != FED {

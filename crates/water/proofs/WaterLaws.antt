@@ -41,9 +41,9 @@ use Rattle.reach.specs.declared.boundary.BoundaryPlace.TheVariants.{Left, Right}
 use Rattle.reach.specs.Reach.{Reach, cells, bed_at, depth_at, discharge_at, left_boundary, right_boundary}
 use Rattle.water.specs.Sides.{cell_side, boundary_side, side_speed, left_side, right_side}
 use Rattle.water.specs.Water.{net_at, momentum_at, own_left, own_right, available, wants_from, draws, draw_of, undrawn_depth, new_depth, pushed, nearest, new_discharge}
-use Rattle.water.specs.Ranges.{side_of, SideStateFits, ExchangeOf, ExchangeFits, flux_most, flow_of, FlowFits, side_meets, sides_meet, granted, granted_depth, granted_discharge, Swept}
-use Rattle.water.specs.declared.SideState.{SideState}
-use Rattle.water.specs.declared.Exchange.{Exchange}
+use Rattle.water.specs.Fits.{ExchangeFits, flux_most}
+use Rattle.water.specs.Ranges.{side_of, ExchangeOf, flow_of, FlowFits, side_meets, sides_meet, granted, granted_depth, granted_discharge, Swept}
+use Rattle.water.specs.declared.sides.SideState.{SideState}
 
 -- what either side of interface i sends over it
 unfoldable pub rightward : Reach → (t i : ℕ) → ℕ
@@ -421,30 +421,29 @@ boundary_fed p e c w o = rw (ne_eqb _ _ w, ne_eqb _ _ o) refl
 
 -- ---- amounts of a crossing are small
 
-side_velocity : (c : SideState) → SideStateFits c → nat_abs (side_of c).velocity ≤ velocity_most
-side_velocity c f =
-    let r = f.right_most in
-    let l = f.left_most in
+side_velocity : (c : SideState) → nat_abs (side_of c).velocity ≤ velocity_most
+side_velocity c =
+    let r = c.fits.right_most in
+    let l = c.fits.left_most in
     omega (arith, abs_sub c.right c.left)
 
-pub crossing_fits : {t X : ℕ} (c : Exchange) {l r : SideState} → Mesh t X → SideStateFits l → SideStateFits r
-    → ExchangeOf t X (side_of l) (side_of r) c.rightward c.leftward c.momentum c.lost_left c.lost_right → ExchangeFits c
+pub crossing_fits : {t X a b p d e : ℕ} (l r : SideState) → Mesh t X → ExchangeOf t X (side_of l) (side_of r) a b p d e → ExchangeFits a b p d e
 unfolding momentum_sum left_depth right_depth
-crossing_fits {t} {X} c {l} {r} g fl fr k =
+crossing_fits {t} {X} l r g k =
     let ul = sub_ℕ l.right l.left in
     let ur = sub_ℕ r.right r.left in
     let hl = reduced_depth l.depth l.bed r.bed in
     let hr = reduced_depth r.depth r.bed l.bed in
-    let dl : hl ≤ depth_most = le_trans (reduced_depth_le l.depth l.bed r.bed) fl.depth in
-    let dr : hr ≤ depth_most = le_trans (reduced_depth_le r.depth r.bed l.bed) fr.depth in
-    let vl = side_velocity l fl in
-    let vr : nat_abs (neg_ℤ ur) ≤ velocity_most = omega (arith, abs_neg ur, side_velocity r fr) in
+    let dl : hl ≤ depth_most = le_trans (reduced_depth_le l.depth l.bed r.bed) l.fits.depth in
+    let dr : hr ≤ depth_most = le_trans (reduced_depth_le r.depth r.bed l.bed) r.fits.depth in
+    let vl = side_velocity l in
+    let vr : nat_abs (neg_ℤ ur) ≤ velocity_most = omega (arith, abs_neg ur, side_velocity r) in
     record {
       rightward_most = omega (arith, k.rightward_is, water_flux_most t X hl ul g dl vl);
       leftward_most = omega (arith, k.leftward_is, water_flux_most t X hr (neg_ℤ ur) g dr vr);
       momentum_most = omega (arith, k.momentum_is, momentum_flux_most t X hl ul g dl vl, momentum_flux_most t X hr (neg_ℤ ur) g dr vr);
-      lost_left_most = omega (arith, k.lost_left_is, still_thrust_most t X l.depth g fl.depth);
-      lost_right_most = omega (arith, k.lost_right_is, still_thrust_most t X r.depth g fr.depth);
+      lost_left_most = omega (arith, k.lost_left_is, still_thrust_most t X l.depth g l.fits.depth);
+      lost_right_most = omega (arith, k.lost_right_is, still_thrust_most t X r.depth g r.fits.depth);
     }
 
 -- 0 alone lies in the range of no depth

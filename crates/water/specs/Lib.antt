@@ -1,3 +1,4 @@
 pub mod Sides
 pub mod Water
+pub mod Fits
 pub mod Ranges

@@ -1,5 +1,5 @@
 -- Not the paper's: what the inner functions require and give. A reader of the model may skip this file.
-use Rattle.std.specs.Prelude.{◌≡◌, Bool, ◌&&◌, List, [], ℕ, suc, ◌+◌, ◌-◌, ◌*◌, ◌≤◌, ◌<◌, min, leb, ℤ, pos, ◌-ℤ◌, nat_abs, neg_ℤ, length, get_or}
+use Rattle.std.specs.Prelude.{◌≡◌, Bool, ◌&&◌, List, [], ℕ, suc, ◌-◌, ◌*◌, ◌≤◌, ◌<◌, min, leb, ℤ, pos, ◌-ℤ◌, nat_abs, neg_ℤ, length, get_or}
 use Rattle.std.proofs.Math.IntN.{sub_ℕ}
 use Rattle.numbers.specs.Index.{all_below}
 use Rattle.numbers.specs.Signed.{positive}
@@ -7,29 +7,17 @@ use Rattle.outlet.specs.Outlets.{no_outlets}
 use Rattle.flux.specs.Limits.{bed_most, depth_most, velocity_most}
 use Rattle.flux.specs.Crossing.{water_flux, still_thrust}
 use Rattle.flux.specs.Interface.{Side, left_depth, right_depth, momentum_sum}
-use Rattle.flux.specs.Wave.{wave_speed}
 use Rattle.friction.specs.Friction.{centimetres, table_most, slowed}
 use Rattle.reach.specs.Reach.{Reach, reach_of, cells, bed_at, depth_at, discharge_at, left_boundary, right_boundary, held_with}
 use Rattle.reach.specs.declared.boundary.Boundary.{Boundary}
 use Rattle.reach.specs.declared.ledger.Totals.{Totals}
 use Rattle.water.specs.Sides.{cell_side, side_speed, left_side, right_side}
 use Rattle.water.specs.Water.{net_at, available, undrawn_depth, pushed, nearest}
-use Rattle.water.specs.declared.SideState.{SideState}
-use Rattle.water.specs.declared.Exchange.{Exchange}
+use Rattle.water.specs.declared.sides.SideState.{SideState}
 
 -- the side that a cell is
 abbrev pub side_of : SideState → Side
 side_of c = record { bed = c.bed; depth = c.depth; velocity = sub_ℕ c.right c.left }
-
--- its values are in range, and its wave speed is that of its depth
-pub record SideStateFits (c : SideState) : Type 0 where
-  pub bed : nat_abs c.bed ≤ bed_most
-  pub depth : c.depth ≤ depth_most
-  pub wave : c.wave ≡ wave_speed c.depth
-  pub right_most : c.right ≤ velocity_most
-  pub left_most : c.left ≤ velocity_most
-  -- one of the two parts is 0
-  pub speed : nat_abs (side_of c).velocity ≡ c.right + c.left
 
 -- what crosses an interface between l and r: both W, P, and what the bed takes of either side's S
 pub record ExchangeOf (t X : ℕ) (l r : Side) (rightward leftward momentum lostLeft lostRight : ℕ) : Type 0 where
@@ -38,20 +26,6 @@ pub record ExchangeOf (t X : ℕ) (l r : Side) (rightward leftward momentum lost
   pub momentum_is : momentum ≡ momentum_sum t X l r
   pub lost_left_is : lostLeft ≡ still_thrust t X l.depth - still_thrust t X (left_depth l r)
   pub lost_right_is : lostRight ≡ still_thrust t X r.depth - still_thrust t X (right_depth l r)
-
--- bounds of those amounts, far below what 64 bits hold
-abbrev pub flux_most : ℕ
-flux_most = 640_000_000
-
-abbrev pub thrust_most : ℕ
-thrust_most = 20_480_000_000_000
-
-pub record ExchangeFits (c : Exchange) : Type 0 where
-  pub rightward_most : c.rightward ≤ flux_most
-  pub leftward_most : c.leftward ≤ flux_most
-  pub momentum_most : c.momentum ≤ thrust_most
-  pub lost_left_most : c.lost_left ≤ thrust_most
-  pub lost_right_most : c.lost_right ≤ thrust_most
 
 -- ---- a whole reach
 

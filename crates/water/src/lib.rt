@@ -1,6 +1,8 @@
 // The water of a step (document 01, 'A water step'): what a cell or a boundary shows at an interface, and what crosses there.
 #![tactic(auto)]
 
+pub mod sides;
+
 ghost use Rattle.std.specs.Prelude.{◌≡◌, ◌*◌, ◌-◌, ◌≤◌, ◌<◌, pos, ◌+ℤ◌, ◌-ℤ◌, nat_abs};
 ghost use Rattle.flux.specs.Limits.{bed_most, depth_most, velocity_most, time_step_most};
 ghost use Rattle.flux.specs.Crossing.{still_thrust};
@@ -8,10 +10,12 @@ ghost use Rattle.flux.specs.Ranges.{Mesh, SpanOf, Flow};
 ghost use Rattle.flux.specs.Velocity.{velocity};
 ghost use Rattle.friction.specs.Friction.{drag, slowed_by};
 ghost use Rattle.friction.specs.Ranges.{conveyance_squared_most, pushed_most};
-ghost use Rattle.water.specs.Ranges.{side_of, SideStateFits, ExchangeOf, ExchangeFits, thrust_most};
+ghost use Rattle.water.specs.Fits.{thrust_most};
+ghost use Rattle.water.specs.Ranges.{side_of, ExchangeOf};
 ghost use Rattle.water.specs.Sides.{boundary_side};
 ghost use Rattle.water.specs.Water.{nearest};
 
+use crate::sides::{Exchange, SideState};
 use flux::crossing::{fluxes_of, still_thrust};
 use flux::interface::{reduced_depth, reduced_wave};
 use flux::velocity::velocity_parts;
@@ -21,19 +25,9 @@ use numbers::quotient::Divisor;
 use numbers::root::SquareRoots;
 use reach::boundary::{Boundary, BoundaryPlace, OPEN, WALL};
 
-// A cell, or a boundary beside one: bed level, depth, wave speed, and velocity right − left
-#[derive(Clone, Copy)]
-pub struct SideState {
-    pub bed: i64,
-    pub depth: u64,
-    pub wave: u64,
-    pub right: u64,
-    pub left: u64,
-}
-
 pub fn cell_state(z: i64, h: u64, q: i64, roots: &SquareRoots) -> SideState
     requires { (nat_abs z ≤ bed_most) × ((h ≤ depth_most) × (nat_abs q ≤ velocity_most * h)) }
-    ensures { SideStateFits result × (side_of result ≡ record { bed = z; depth = h; velocity = velocity h q }) }
+    ensures { side_of result ≡ record { bed = z; depth = h; velocity = velocity h q } }
 {
     let u = velocity_parts(h, q);
     SideState {
@@ -47,8 +41,8 @@ pub fn cell_state(z: i64, h: u64, q: i64, roots: &SquareRoots) -> SideState
 
 // What a boundary at the place p shows beside the cell c
 pub fn boundary_state(p: BoundaryPlace, e: Boundary, c: SideState, roots: &SquareRoots) -> SideState
-    requires { SideStateFits c × ((e.depth ≤ depth_most) × (nat_abs e.discharge ≤ velocity_most * e.depth)) }
-    ensures { SideStateFits result × (side_of result ≡ boundary_side p e (side_of c)) }
+    requires { (e.depth ≤ depth_most) × (nat_abs e.discharge ≤ velocity_most * e.depth) }
+    ensures { side_of result ≡ boundary_side p e (side_of c) }
 {
     if e.kind == WALL {
         return SideState {
@@ -77,18 +71,7 @@ fn thrust_lost(t: u64, x: u64, span: Divisor, h: u64, a: u64, reduced: u64, redu
     still_thrust(t, x, span, h, a) - still_thrust(t, x, span, reduced, reduced_a)
 }
 
-// What crosses an interface: W of the left side rightwards, W of the right side leftwards, P, and what the bed takes of either side's thrust,
-// S(h) − S(h*). N is rightward − leftward; of a cell, S(own h* at the right) − S(own h* at the left) is what is lost at its left less what is
-// lost at its right.
-#[derive(Clone, Copy, Default)]
-pub struct Exchange {
-    pub rightward: u64,
-    pub leftward: u64,
-    pub momentum: u64,
-    pub lost_left: u64,
-    pub lost_right: u64,
-}
-
+// What crosses between l and r
 pub fn exchange_between(
     t: u64,
     x: u64,
@@ -97,12 +80,18 @@ pub fn exchange_between(
     r: SideState,
     roots: &SquareRoots,
 ) -> Exchange
-    requires mesh { Mesh t x × (SideStateFits l × SideStateFits r) }
+    requires mesh { Mesh t x }
     requires span_of { SpanOf x span }
-    ensures { ExchangeOf t x (side_of l) (side_of r) result.rightward result.leftward result.momentum result.lost_left result.lost_right × ExchangeFits result }
+    ensures { ExchangeOf t x (side_of l) (side_of r) result.rightward result.leftward result.momentum result.lost_left result.lost_right }
 {
     if l.depth + r.depth == 0 {
-        return Exchange::default();
+        return Exchange {
+            rightward: 0,
+            leftward: 0,
+            momentum: 0,
+            lost_left: 0,
+            lost_right: 0,
+        };
     }
     let hl = reduced_depth(l.depth, l.bed, r.bed);
     let hr = reduced_depth(r.depth, r.bed, l.bed);
@@ -123,9 +112,9 @@ pub fn exchange_between(
 // The same between two sides at one bed level, as a boundary and its cell are: no depth is reduced there, and nothing lost
 // (a function of its own: called from one place alone, the sweep's loop, `exchange_between` is compiled into it, which paid 1/14 of a step when it was measured)
 pub fn exchange_level(t: u64, x: u64, span: Divisor, l: SideState, r: SideState) -> Exchange
-    requires mesh { Mesh t x × (SideStateFits l × SideStateFits r) }
+    requires mesh { Mesh t x }
     requires span_of { SpanOf x span × (l.bed ≡ r.bed) }
-    ensures { ExchangeOf t x (side_of l) (side_of r) result.rightward result.leftward result.momentum result.lost_left result.lost_right × ExchangeFits result }
+    ensures { ExchangeOf t x (side_of l) (side_of r) result.rightward result.leftward result.momentum result.lost_left result.lost_right }
 {
     let a = fluxes_of(t, x, span, l.depth, l.wave, l.right, l.left);
     let b = fluxes_of(t, x, span, r.depth, r.wave, r.left, r.right);

@@ -10,7 +10,7 @@ use Rattle.std.specs.Prelude.{Ok}
 use Rattle.reach.proofs.Sound.{Sound, sound}
 use Rattle.timestep.specs.GreatestStep.{boundary_speed, left_speed, right_speed}
 use Rattle.timestep.proofs.GreatestLaws.{columns_flow, stopped, place_left, place_right, speed_most, found}
-use Rattle.water.specs.Ranges.{InRange, side_of, SideStateFits}
+use Rattle.water.specs.Ranges.{InRange, side_of}
 use Rattle.water.specs.Sides.{cell_side}
 use borrow.Author.Rules.{sfits_of}
 use Rattle.timestep.proofs.greatest_step.Goals as goal
@@ -34,22 +34,22 @@ cell_in_range : (s : Reach) → Sound s → (i : ℕ) → i < cells s → InRang
 cell_in_range s k i l = let c = k.cell i l in (c.bed, (c.depth, c.discharge))
 
 -- the first and the last cell
-first : (c : After-cell_state-first) → let s = reach (goal.at.After-cell_state-first c).Start in SideStateFits c.cell_state-first.result × (side_of c.cell_state-first.result ≡ cell_side s 0)
+first : (c : After-cell_state-first) → let s = reach (goal.at.After-cell_state-first c).Start in side_of c.cell_state-first.result ≡ cell_side s 0
 unfolding cell_side
 first c = rw (to_z-of_z (sfits_of c.cell_state-arg-1.given), to_z-of_z (sfits_of c.cell_state-arg-2-1.given)) at c.cell_state-first.ensures
 
-last : (c : After-cell_state-last) → let s = reach (goal.at.After-cell_state-last c).Start in SideStateFits c.cell_state-last.result × (side_of c.cell_state-last.result ≡ cell_side s (cells s - 1))
+last : (c : After-cell_state-last) → let s = reach (goal.at.After-cell_state-last c).Start in side_of c.cell_state-last.result ≡ cell_side s (cells s - 1)
 unfolding cell_side
 last c = rw (to_z-of_z (sfits_of c.cell_state-arg-3-1.given), to_z-of_z (sfits_of c.cell_state-arg-4-1.given)) at c.cell_state-last.ensures
 
 -- what the boundaries give
 left_is : (c : After-boundary_speed-left) → c.boundary_speed-left.result ≡ left_speed (reach (goal.at.After-boundary_speed-left c).Start)
 unfolding left_speed
-left_is c = c.boundary_speed-left.ensures ∙ ap (boundary_speed _ _) (first (goal.at.After-boundary_speed-left c).After-cell_state-first).1
+left_is c = c.boundary_speed-left.ensures ∙ ap (boundary_speed _ _) (first (goal.at.After-boundary_speed-left c).After-cell_state-first)
 
 right_is : (c : After-boundary_speed-right) → c.boundary_speed-right.result ≡ right_speed (reach (goal.at.After-boundary_speed-right c).Start)
 unfolding right_speed
-right_is c = c.boundary_speed-right.ensures ∙ ap (boundary_speed _ _) (last (goal.at.After-boundary_speed-right c).After-cell_state-last).1
+right_is c = c.boundary_speed-right.ensures ∙ ap (boundary_speed _ _) (last (goal.at.After-boundary_speed-right c).After-cell_state-last)
 
 pub returns-in-Err : goal.returns-in-Err
 returns-in-Err c =
@@ -116,9 +116,9 @@ returns c =
 pub boundary_speed-left-requires : goal.boundary_speed-left-requires
 boundary_speed-left-requires c =
     let k = (checked (goal.at.boundary_speed-left-requires c).In_default).left in
-    ((first (goal.at.boundary_speed-left-requires c).After-cell_state-first).0, (k.depth, k.discharge))
+    (k.depth, k.discharge)
 
 pub boundary_speed-right-requires : goal.boundary_speed-right-requires
 boundary_speed-right-requires c =
     let k = (checked (goal.at.boundary_speed-right-requires c).In_default).right in
-    ((last (goal.at.boundary_speed-right-requires c).After-cell_state-last).0, (k.depth, k.discharge))
+    (k.depth, k.discharge)

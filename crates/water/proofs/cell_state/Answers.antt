@@ -18,20 +18,24 @@ side_at z h e = rw e refl
 size : (u : ℤ) {r l : ℕ} → r ≡ positive u → l ≡ positive (neg_ℤ u) → nat_abs (sub_ℕ r l) ≡ r + l
 size u {r} {l} e f = ⊎_elim (λ z. omega (arith, abs_sub r l, e, f, z)) (λ z. omega (arith, abs_sub r l, e, f, z)) (one_part u)
 
-pub returns : goal.returns
-returns c =
+pub invariant_of-result : goal.invariant_of-result
+invariant_of-result c =
     let u = velocity c.args.h c.args.q in
     let v = rw (to_z-of_z c.ranges.q) at c.velocity_parts-u.ensures in
     let m = velocity_most_lem 8_000 c.args.h c.args.q c.requires.1.1 in
     let a = abs_parts u in
-    rw (to_z-of_z c.ranges.z) (
-      record {
+    record {
+      fits = rw (to_z-of_z c.ranges.z) record {
         bed = c.requires.0;
         depth = c.requires.1.0;
         wave = c.wave_speed.ensures;
         right_most = omega arith;
         left_most = omega arith;
         speed = size u v.0 v.1;
-      },
-      side_at c.args.z c.args.h (ap₂ sub_ℕ v.0 v.1 ∙ sym (two_parts u)),
-    )
+      };
+    }
+
+pub returns : goal.returns
+returns c =
+    let v = rw (to_z-of_z c.ranges.q) at c.velocity_parts-u.ensures in
+    rw (to_z-of_z c.ranges.z) (side_at c.args.z c.args.h (ap₂ sub_ℕ v.0 v.1 ∙ sym (two_parts (velocity c.args.h c.args.q))))
