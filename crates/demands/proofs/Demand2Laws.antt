@@ -204,7 +204,7 @@ not_kept_is s t F {r} {e} k z i l ne =
           ∙ ap (λ (d : ℕ). d + draw_of s t j) none ∙ omega arith;
     }
 
--- ---- the answers of an accepted greatest_step_lem call and of a write
+-- ---- the answers of an accepted greatest-step call and of a write
 
 pub greatest_stood : (s : Reach) → (greatest s).refusal ≡ 0 → first_refusal (record_grounds s s.held.boundaries) ≡ Ok tt
 unfolding greatest

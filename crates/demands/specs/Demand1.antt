@@ -20,7 +20,7 @@ use Rattle.jemmyfern_c.specs.declared.answer.Stepped.{Stepped}
 use Rattle.jemmyfern_c.specs.declared.answer.Greatest.{Greatest}
 use Rattle.jemmyfern_c.proofs.Functions.{Lent, given, OpenLeft, StepLeft, TransportLeft, OpenAsks, OpenEnsures, StepAsks, StepEnsures, TransportAsks, TransportEnsures, SettingAsks, SettingEnsures, GreatestAsks, GreatestEnsures, WriteAsks, WriteEnsures}
 
--- 'Every sheet, end setting, time step, settling, greatest_step_lem call and write ..': no function asks anything of what it is given
+-- 'Every sheet, end setting, time step, settling, greatest-step call and write ..': no function asks anything of what it is given
 pub record AsksNothing : Type 0 where
   pub opening : (κs : Lfts 8) (sheet : Bor (List ℕ)) (l : Lent) → OpenAsks κs sheet l
   pub step : (κs : Lfts 7) (l : Lent) (X : ℕ) (k : Held) (t F : ℕ) → StepAsks κs l X k t F

@@ -132,7 +132,7 @@ pub record MassSame (k k' : Ledger) : Type 0 where
   pub right_out : k'.right.mass_out ≡ k.right.mass_out
 
 -- What a list makes of the tally, call by call (its own record moves as the program's: `own`, above): 'opening amounts are those of the sheet', 'its sums start at 0', 'ends held or set since are those of the sheet and of every accepted end
--- setting', 'a refused call, a greatest_step_lem call and a write change nothing' but take the wants of the call, 'an accepted [opening] starts another list'
+-- setting', 'a refused call, a greatest-step call and a write change nothing' but take the wants of the call, 'an accepted [opening] starts another list'
 pub record TallyCourse : Type 0 where
   pub none : (T : Tally) → run T [] ≡ T
   pub next : (T : Tally) (e : Entry) (es : List Entry) → run T (e ∷ es) ≡ run (count T e.free e.call) es

@@ -138,7 +138,7 @@ pub record Lists : Type 0 where
       (refusal.Edition ∷ refusal.Size ∷ refusal.Layout ∷ refusal.Lengths ∷ refusal.CellLength ∷ refusal.Boundaries ∷ refusal.Values ∷ refusal.Carried ∷ refusal.Ledger ∷ refusal.TimeStep
       ∷ refusal.Cfl ∷ refusal.Depth ∷ refusal.Total ∷ refusal.NotTransported ∷ refusal.ShortOutput ∷ refusal.Outlets ∷ refusal.Strickler ∷ [])
       ≡ 1 ∷ 2 ∷ 3 ∷ 4 ∷ 5 ∷ 6 ∷ 7 ∷ 8 ∷ 9 ∷ 10 ∷ 11 ∷ 12 ∷ 13 ∷ 14 ∷ 15 ∷ 16 ∷ 17 ∷ []
-  -- 'Every other call on a record uses 4 to 9', with 16 'checked after 7' (the greatest_step_lem call no others); 6 twice, for the boundaries held and those newly given (`es`: for a call that is given none, those held)
+  -- 'Every other call on a record uses 4 to 9', with 16 'checked after 7' (the greatest-step call no others); 6 twice, for the boundaries held and those newly given (`es`: for a call that is given none, those held)
   pub record_list : (s : Reach) (es : List Boundary)
       → record_grounds s es
       ≡ ground refusal.Lengths (lengths_fit (length s.bed) (length s.depth) (length s.discharge) (length s.mass) (length s.base) (length s.carried))

@@ -122,7 +122,7 @@ pub record PlaceSpeeds (s : Reach) : Type 0 where
       → place_speed s (cells s + 1) ≡ speed_of (right_boundary s.held.boundaries).depth (right_boundary s.held.boundaries).discharge
   pub right_unfed : ((right_boundary s.held.boundaries).kind ≡ 2 → ⊥) → place_speed s (cells s + 1) ≡ 0
 
--- 'The call answers the greatest t in 1..1,000 that meets CFL, and the place of the greatest |u|+a'; document 02, point 2: 'Among equal greatest values of |u|+a, the greatest_step_lem call
+-- 'The call answers the greatest t in 1..1,000 that meets CFL, and the place of the greatest |u|+a'; document 02, point 2: 'Among equal greatest values of |u|+a, the greatest-step call
 -- shall name the highest place': no higher place is as fast
 pub record Fastest (s : Reach) (time place : ℕ) : Type 0 where
   pub least : 1 ≤ time

@@ -45,7 +45,7 @@ outlet_from ws at = record {
 unfoldable pub outlets_from : (words : List ℕ) (at : ℕ) → List Outlet
 outlets_from ws at = tabulate (get_or ws at 0) (λ k. outlet_from ws (at + 1 + 5 * k))
 
--- by the first word of a call: 0 a step, 1 a transport, 2 a setting of boundaries, 3 a greatest_step_lem call, 4 a write, any other an opening
+-- by the first word of a call: 0 a step, 1 a transport, 2 a setting of boundaries, 3 a greatest-step call, 4 a write, any other an opening
 abbrev pub call_of : (word a b : ℕ) → List Boundary → (lent : List Outlet) → (sheets : List ℕ) (room : ℕ) → Call
 call_of w a b es os sheets room =
     cond (eqb w 0) (step_call a b)

@@ -42,7 +42,7 @@ pub transport_next : (s : Reach) (f : Free) {r : TransportAnswer} {m b : List �
     → reach_of s.bed s.depth s.discharge m b c s.cell_length r.held ≡ next s f transport_call
 transport_next s f k = left_by_transport (with_wants f.wants s) k
 
--- a greatest_step_lem call and a write hand boundaries, ledger and outlets back as they came
+-- a greatest-step call and a write hand boundaries, ledger and outlets back as they came
 greatest_keeps : (s : Reach) (k : Verdict) → reach_of s.bed s.depth s.discharge s.mass s.base s.carried s.cell_length (greatest_by k s).held ≡ s
 greatest_keeps s (Ok u) = refl
 greatest_keeps s (Err r) = refl

@@ -190,7 +190,7 @@ given T f greatest_call = take_wants f.wants T
 given T f (write_call room) = take_wants f.wants T
 given T f (open_call sheet os) = T
 
--- what an accepted call makes of the tally that it met; a greatest_step_lem call and a write change nothing, an accepted opening starts another list,
+-- what an accepted call makes of the tally that it met; a greatest-step call and a write change nothing, an accepted opening starts another list,
 -- with the list lent to it
 abbrev pub accepted : Tally → Free → Call → Tally
 accepted T f (step_call t F) = count_step T t F

@@ -104,7 +104,7 @@ pub data Chain : Reach → List Entry → Reach → Type 0 where
   done : {s : Reach} → Chain s [] s
   then : {s s' s'' : Reach} {e : Entry} {es : List Entry} → Link s e.free e.call s' → Chain s' es s'' → Chain s (e ∷ es) s''
 
--- Demand 3. 'For every list of steps, settlings, end settings, greatest_step_lem calls and writes from an accepted opening on, refused ones
+-- Demand 3. 'For every list of steps, settlings, end settings, greatest-step calls and writes from an accepted opening on, refused ones
 -- included, whatever times, ends and outputs they are given': an opening of a sheet into whatever columns and with whatever outlets were lent, which
 -- was not refused, then any list of calls.
 abbrev pub Demand3 : Type 0
