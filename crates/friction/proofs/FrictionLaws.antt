@@ -2,19 +2,20 @@
 -- Assumes nothing.
 use mathlib.Core.Path.{◌≡◌, refl, sym, ap, ◌∙◌}
 use mathlib.Core.Bool.{Bool, true, false, not, cond}
+use mathlib.Core.Logic.{⊎_elim}
 use mathlib.Core.List.{[], ◌∷◌}
 use Prim.Native.Nat.{ℕ, zero, suc, ◌+◌, ◌-◌, ◌*◌, ◌/◌, ◌≤◌, ◌<◌, min}
-use native.Mathlib.Nat.{mul-le-mul, lt_of_not-le, lt_irrefl, lt_of_le_of_lt, div-le_of_le-mul, div-mul-le_self, le-div_iff_mul-le, div-lt_iff_lt-mul, lt-div-mul-add, mul-le-mul_left}
+use native.Mathlib.Nat.{mul-le-mul, lt_of_not-le, lt_irrefl, lt_of_le_of_lt, div-le_of_le-mul, div-mul-le_self, le-div_iff_mul-le, div-lt_iff_lt-mul, lt-div-mul-add, mul-le-mul_left, zero-mul, zero-div}
 use native.Mathlib.Numerals.{add-one}
 use native.Mathlib.Omega.{arith}
 use lib.Dec.{T, eqb, leb, leb→le, le→leb, nleb→lt, not_T}
-use lib.IntN.{ℤ, pos, ◌*ℤ◌}
+use lib.IntN.{ℤ, pos, sub_ℕ, ◌*ℤ◌}
 use lib.Signed.{quot_z}
 use borrow.Author.Tests.{leb-true, eq-eqb, ne_eqb}
 use Rattle.numbers.specs.Index.{all_of}
 use Rattle.numbers.proofs.IndexLaws.{all_of_lem}
 use Rattle.numbers.proofs.SearchLaws.{climb_stops, climb_holds}
-use Rattle.numbers.proofs.SignedLaws.{R, L, times_cross}
+use Rattle.numbers.proofs.SignedLaws.{R, L, times_cross, from_cross, right_sub, left_sub, one_part}
 use Rattle.flux.specs.Limits.{depth_most}
 use Rattle.flux.specs.Velocity.{velocity}
 use Rattle.flux.proofs.VelocityLaws.{velocity_right, velocity_left}
@@ -132,6 +133,25 @@ kept_is s d e p = go ((s * e + (d + e - 1)) / (d + e)) (s - (s * e + (d + e - 1)
         let a : k ≤ s * d / (d + e) = (le-div_iff_mul-le m).1 (rw w (omega (arith, rw w at h, p))) in
         let b : s * d / (d + e) < k + 1 = (div-lt_iff_lt-mul m).1 (rw w (omega (arith, rw w at l, p))) in
         omega (arith, a, b)
+
+-- ---- the parts of what is left
+
+-- of nothing nothing
+nothing : (d m : ℕ) → 0 * d / m ≡ 0
+nothing d m = rw (zero-mul d) (zero-div m)
+
+-- of a discharge to the left, and of one to the right
+module _ (F D E r : ℕ) (p : ℤ) (f : F ≡ 0 → ⊥) (d : D ≡ 0 → ⊥) where
+  pub leftward_kept : R p ≡ 0 → r ≡ L p * D / (D + E) → sub_ℕ 0 r ≡ slowed_by F D E p
+  leftward_kept z e =
+      let right = slowed_right F D E p f d ∙ ap (λ (n : ℕ). n * D / (D + E)) z ∙ nothing D (D + E) in
+      from_cross _ _ (omega (arith, right, slowed_left F D E p f d ∙ sym e, right_sub 0 r, left_sub 0 r))
+
+  pub rightward_kept : (R p ≡ 0 → ⊥) → r ≡ R p * D / (D + E) → sub_ℕ r 0 ≡ slowed_by F D E p
+  rightward_kept z e =
+      let none : L p ≡ 0 = ⊎_elim (λ n. absurd (z n)) (λ n. n) (one_part p) in
+      let left = slowed_left F D E p f d ∙ ap (λ (n : ℕ). n * D / (D + E)) none ∙ nothing D (D + E) in
+      from_cross _ _ (omega (arith, left, slowed_right F D E p f d ∙ sym e, right_sub r 0, left_sub r 0))
 
 -- ---- neither part of a discharge grows: 'its size never grows and its sign never turns'
 

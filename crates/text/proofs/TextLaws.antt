@@ -101,6 +101,13 @@ module _ (a : List ℕ) (at : ℕ) (f : ℕ → ℕ) where
     behind = λ k q. w.behind k (omega (arith, e));
   }
 
+-- one byte, which is a text of one
+pub put_one : (a : List ℕ) (at v : ℕ) → at < length a → Put a at (v ∷ []) (set a at v)
+put_one a at v l =
+    let front : at + 0 ≡ at = omega arith in
+    let one = rw front at (putting_more a at (λ k. v) 0 a v (putting_none a at (λ k. v)) (omega (arith, l)) refl) in
+    putting_all a at (λ k. v) 1 (set a at v) (v ∷ []) one refl (λ k j. let e : k ≡ 0 = omega arith in rw e refl)
+
 -- ---- how many digits
 
 below_power : (k : ℕ) → k < 10 ^ k

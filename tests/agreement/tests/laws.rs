@@ -5,9 +5,8 @@ use std::collections::HashSet;
 use std::fs;
 use std::path::{Path, PathBuf};
 
-/// They stand at the end: each shows by itself that a contract says its call's definition, or that a statement is of every list, is where an edit of a definition
-/// falls, or is a law of texts that the pages name.
-const PINS: [&str; 42] = [
+/// They stand at the end: each shows by itself that a contract says its call's definition, or that a statement is of every list.
+const PINS: [&str; 33] = [
     "open_says",
     "step_says",
     "transport_says",
@@ -41,18 +40,9 @@ const PINS: [&str; 42] = [
     "greatest_post",
     "write_pre",
     "write_post",
-    "slowed_none",
-    "slowed_all",
-    "laid",
-    "laid_then",
-    "putting_none",
-    "putting_more",
-    "putting_all",
-    "slowed_right",
-    "slowed_left",
 ];
 
-/// Laws that no proof cites any more. They may go with the next change of their crates.
+/// Laws that no proof cites any more. Before one goes, docs/DESIGN-PASS.md has to name what states it.
 const IDLE: [&str; 2] = ["no_further_within", "square_low"];
 
 struct Source {
