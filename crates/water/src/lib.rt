@@ -15,7 +15,7 @@ ghost use Rattle.water.specs.Ranges.{side_of, ExchangeOf};
 ghost use Rattle.water.specs.Sides.{boundary_side};
 ghost use Rattle.water.specs.Water.{nearest};
 
-use crate::sides::{Exchange, SideState};
+pub use crate::sides::{Exchange, SideState};
 use flux::crossing::{fluxes_of, still_thrust};
 use flux::interface::{reduced_depth, reduced_wave};
 use flux::velocity::velocity_parts;
