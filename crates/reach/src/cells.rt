@@ -66,11 +66,11 @@ pub fn check_cell_length(x: u64) -> Result<(), Refusal>
 pub fn cell_fits(z: i64, h: u64, q: i64, m: u64, b: u64) -> bool
     ensures { result ≡ cell_fits z h q m b }
 {
+    // the last two together: as one chain of five, an opening reads each mass byte by byte and takes half as long again
     within(z, 100_000_000)
         && h <= 4_000_000
         && q.unsigned_abs() <= 8_000 * h
-        && b <= 4_000_000
-        && m <= 500_000 * b
+        && (b <= 4_000_000 && m <= 500_000 * b)
 }
 
 pub fn check_cells(
