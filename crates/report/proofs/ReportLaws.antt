@@ -21,7 +21,3 @@ laid_then {a} {at} {p} {b} {next} {q} {c} {r} f g = record {
   next_is = omega (arith, f.next_is, g.next_is, length-append p q);
   put = put_more a at p b q c f.put (subst (λ (n : ℕ). Put b n q c) f.next_is g.put);
 }
-
--- one text from the start of a buffer on
-pub laid_all : {a : List ℕ} {at : ℕ} {p b : List ℕ} {next : ℕ} {out out' : List ℕ} → Laid a at p b next → at ≡ 0 → a ≡ out → b ≡ out' → Put out 0 p out'
-laid_all f e l m = rw (e, l, m) at f.put

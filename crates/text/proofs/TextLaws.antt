@@ -40,6 +40,10 @@ put_more a at p b q c f g = record {
   behind = λ k l. let n = length-append p q in g.behind k (omega arith) ∙ f.behind k (omega arith);
 }
 
+-- a text from the start of a buffer on
+pub put_all : {a : List ℕ} {at : ℕ} {p b out out' : List ℕ} → Put a at p b → at ≡ 0 → a ≡ out → b ≡ out' → Put out 0 p out'
+put_all f e l m = rw (e, l, m) at f
+
 -- the same of a writer
 pub adds_none : (a : Writer) → Adds a [] a
 adds_none a = record { same = refl; next_is = omega arith; put = put_none a.out.now a.at }
@@ -53,7 +57,7 @@ adds_more {a} {b} {c} {p} {q} f g = record {
 
 -- what a writer that began at the start of a buffer left there
 pub adds_all : {a b : Writer} {p out out' : List ℕ} → Adds a p b → a.at ≡ 0 → a.out.now ≡ out → b.out.now ≡ out' → Put out 0 p out'
-adds_all {a} {b} {p} f e l m = rw (e, l, m) at f.put
+adds_all f e l m = put_all f.put e l m
 
 -- the part of the buffer from `at` to `at + n`
 pub part_long : (a : List ℕ) (at n : ℕ) → at + n ≤ length a → length (take (at + n - at) (drop at a)) ≡ n
